@@ -35,10 +35,10 @@ pub(crate) fn refuse(row: FaultRow, fault: &mut Fault) -> u32
     ensures failed { result ≢ ok }
     ensures asked { result ≢ wrong_argument }
 {
-    let [(_, first), (_, second), (_, third)] = row.kind.numbers;
+    let [(_, first), (_, second), (_, third)] = row.numbers;
     *fault = Fault {
         source: row.source.1,
-        kind: row.kind.name.1,
+        kind: row.kind.1,
         numbers: [first, second, third],
         reserved: [0; 4],
     };

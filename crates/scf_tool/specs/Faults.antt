@@ -1,6 +1,6 @@
 -- The row of each fault: what is refused and why, each by its name in the printed line and its number in scf.h, the
 -- numbers that say where, and the program's exit status. Numbers of scf.h never change; new kinds come behind them.
-use Rattle.std.specs.Prelude.{ℕ, List, [], ◌∷◌, ◌++◌, ◌-◌, ◌^◌, codes, map, Option, Some, None, if◌then◌else◌}
+use Rattle.std.specs.Prelude.{ℕ, List, [], ◌∷◌, ◌++◌, ◌-◌, ◌^◌, codes, map, Option, Some, None, option_map, if◌then◌else◌}
 use Rattle.std.specs.Borrow.{Bor}
 use Rattle.std.specs.List.{flat_map}
 use Rattle.std.specs.Fmt.{decimal}
@@ -10,7 +10,6 @@ use Rattle.scf_insn.specs.declared.encoding.ReadFault.{ReadFault}
 use Rattle.scf_insn.specs.declared.encoding.ReadFault.TheVariants as reads
 use Rattle.scf_machine.specs.declared.checker.CheckFault.{CheckFault}
 use Rattle.scf_machine.specs.declared.checker.CheckFault.TheVariants as checks
-use Rattle.scf_machine.specs.declared.stack.PushFault.{PushFault}
 use Rattle.scf_machine.specs.declared.stack.PushFault.TheVariants as pushes
 use Rattle.scf_text.specs.declared.fault.TextFault.{TextFault}
 use Rattle.scf_text.specs.declared.fault.TextFault.TheVariants as texts
@@ -30,7 +29,6 @@ use Rattle.scf_tool.specs.declared.status.Status.{Status}
 use Rattle.scf_tool.specs.declared.status.Status.TheVariants.{Refused, CommandLine, Failed}
 use Rattle.scf_tool.specs.declared.fault.Fault.{Fault}
 use Rattle.scf_tool.specs.declared.fault.Fault.TheVariants as faults
-use Rattle.scf_tool.specs.declared.fault_row.FaultKind.{FaultKind}
 use Rattle.scf_tool.specs.declared.fault_row.FaultRow.{FaultRow}
 
 -- a name in the printed line, and its number in scf.h; 0 if only the program has it
@@ -52,9 +50,6 @@ Row = Name × Kind
 
 -- ---- numbers
 
-abbrev pub named : List ℕ → ℕ → Number
-named name value = (Some name, value)
-
 -- in place of a number that the kind hasn't
 abbrev pub unused : Number
 unused = (None, 0)
@@ -63,7 +58,7 @@ abbrev pub none : List Number
 none = unused ∷ unused ∷ unused ∷ []
 
 abbrev pub one : List ℕ → ℕ → List Number
-one name value = named name value ∷ unused ∷ unused ∷ []
+one name value = (Some name, value) ∷ unused ∷ unused ∷ []
 
 -- that of an entry of a profile, or outside of them the greatest number
 abbrev pub in_entry : Option ℕ → List Number
@@ -107,7 +102,7 @@ check_kind (checks.Shift at) = (Refused, (codes "Shift", 10), one (codes "at") a
 check_kind (checks.Jump at) = (Refused, (codes "Jump", 11), one (codes "at") at)
 check_kind checks.LastNotReturn = (Refused, (codes "LastNotReturn", 12), none)
 check_kind (checks.Unset at word) =
-    (Refused, (codes "Unset", 13), named (codes "at") at ∷ named (codes "word") word ∷ unused ∷ [])
+    (Refused, (codes "Unset", 13), (Some (codes "at"), at) ∷ (Some (codes "word"), word) ∷ unused ∷ [])
 check_kind checks.Memory = (Failed, memory, none)
 
 abbrev pub text_kind : TextFault → Kind
@@ -145,17 +140,9 @@ load_kind loads.TooMany = (Refused, (codes "TooMany", 36), none)
 load_kind (loads.Conflict number first second) = (
   Refused,
   (codes "Conflict", 37),
-  named (codes "number") number ∷ named (codes "first") first ∷ named (codes "second") second ∷ [],
+  (Some (codes "number"), number) ∷ (Some (codes "first"), first) ∷ (Some (codes "second"), second) ∷ [],
 )
 load_kind loads.Memory = (Failed, memory, none)
-
-abbrev pub compile_kind : CompileFault → Kind
-compile_kind compiles.TooLarge = (Refused, (codes "TooLarge", 38), none)
-compile_kind compiles.Memory = (Failed, memory, none)
-
-abbrev pub push_kind : PushFault → Kind
-push_kind (pushes.TooMany total) = (Refused, (codes "TooMany", 36), one (codes "total") total)
-push_kind pushes.Memory = (Failed, memory, none)
 
 -- ---- the rows
 
@@ -163,12 +150,15 @@ abbrev pub text_row : TextFault → Row
 text_row fault = ((codes "text", 3), text_kind fault)
 
 abbrev pub compile_row : CompileFault → Row
-compile_row fault = ((codes "compile", 6), compile_kind fault)
+compile_row compiles.TooLarge = ((codes "compile", 6), (Refused, (codes "TooLarge", 38), none))
+compile_row compiles.Memory = ((codes "compile", 6), (Failed, memory, none))
 
 abbrev pub verify_row : VerifyFault → Row
 verify_row (verifies.FilterRead fault) = ((codes "filter", 1), read_kind fault)
 verify_row (verifies.Check fault) = ((codes "filter", 1), check_kind fault)
-verify_row (verifies.Stack fault) = ((codes "stack", 7), push_kind fault)
+verify_row (verifies.Stack (pushes.TooMany total)) =
+    ((codes "stack", 7), (Refused, (codes "TooMany", 36), one (codes "total") total))
+verify_row (verifies.Stack pushes.Memory) = ((codes "stack", 7), (Failed, memory, none))
 verify_row (verifies.TableRead fault) = ((codes "table", 4), input_kind fault)
 verify_row (verifies.Table fault) = ((codes "table", 4), table_kind fault)
 verify_row (verifies.ProfileRead fault) = ((codes "profile", 5), input_kind fault)
@@ -211,15 +201,11 @@ printed_fault fault = ((fault_row fault).1.0, fault_line (fault_row fault))
 
 -- ---- rows as the code keeps them
 
-abbrev pub name_at : Option (Bor (List ℕ)) → Option (List ℕ)
-name_at None = None
-name_at (Some name) = Some name.now
-
 abbrev pub number_of : Option (Bor (List ℕ)) × ℕ → Number
-number_of (name, value) = (name_at name, value)
+number_of (name, value) = (option_map (λ text. text.now) name, value)
 
-abbrev pub kind_of : FaultKind → Kind
-kind_of kind = (kind.status, (kind.name.0.now, kind.name.1), map number_of kind.numbers)
+abbrev pub kind_of : Status × (Bor (List ℕ) × ℕ) × List (Option (Bor (List ℕ)) × ℕ) → Kind
+kind_of (status, name, numbers) = (status, (name.0.now, name.1), map number_of numbers)
 
 abbrev pub row_of : FaultRow → Row
-row_of row = ((row.source.0.now, row.source.1), kind_of row.kind)
+row_of row = ((row.source.0.now, row.source.1), kind_of (row.status, row.kind, row.numbers))

@@ -15,7 +15,7 @@ mod text;
 
 use crate::command_line::{explain, report_out_of_memory};
 use crate::fault::Fault;
-use crate::reply::{LINE_ROOM, Reply, status_of, text_of};
+use crate::reply::{LINE_ROOM, Reply, printed};
 use crate::status::Status;
 use bundle::answer_bundle;
 use filter::{check_filter, list_filter, run_filter, trace_filter};
@@ -104,8 +104,7 @@ pub fn run_command<T: AsStr, R: Source, W: Sink>(
         return report_out_of_memory(out);
     };
     let ending = ending_of(alloc, words, input);
-    let status = status_of(&ending);
-    let Ok(text) = text_of(ending, line) else {
+    let Ok((status, text)) = printed(ending, line) else {
         return report_out_of_memory(out);
     };
     match write_whole(out, &text) {

@@ -29,7 +29,7 @@ impl fmt::Display for FaultRow {
     ghost output = { λ row. Some (fault_line (row_of row)) };
 
     fn fmt<W: fmt::Write>(&self, f: &mut fmt::Formatter<W>) -> fmt::Result {
-        let numbers = Numbers(&self.kind.numbers);
-        write!(f, "fault {} {}{numbers}\n", self.source.0, self.kind.name.0)
+        let numbers = Numbers(&self.numbers);
+        write!(f, "fault {} {}{numbers}\n", self.source.0, self.kind.0)
     }
 }

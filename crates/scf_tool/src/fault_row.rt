@@ -1,7 +1,7 @@
 //! The row of each fault: its source and its kind, each by its name in the printed line and its number in scf.h, the
 //! numbers that say where, and the exit status. Numbers of scf.h never change; a new kind comes behind the last.
 
-ghost use Rattle.std.specs.Prelude.{◌≡◌, ◌∷◌, [], Some, map};
+ghost use Rattle.std.specs.Prelude.{◌≡◌, map};
 ghost use Rattle.scf_tool.specs.Faults as table;
 
 use crate::fault::Fault;
@@ -21,26 +21,17 @@ pub type FaultName = (&'static str, u32);
 /// One of a fault's numbers: its name in the line, which leaves out a number without one, and what libscf hands out.
 pub type FaultNumber = (Option<&'static str>, u64);
 
-/// Why something is refused, and the numbers that say where.
-#[derive(Clone, Copy)]
-pub struct FaultKind {
-    pub(crate) status: Status,
-    pub name: FaultName,
-    pub numbers: [FaultNumber; 3],
-}
+/// Why something is refused: the exit status, the kind's name, and the numbers that say where.
+type Kind = (Status, FaultName, [FaultNumber; 3]);
 
-/// An input that is refused, and the kind of its fault.
+/// An input that is refused, and why.
 #[derive(Clone, Copy)]
 pub struct FaultRow {
     pub source: FaultName,
-    pub kind: FaultKind,
+    pub(crate) status: Status,
+    pub kind: FaultName,
+    pub numbers: [FaultNumber; 3],
 }
-
-const OF_FILTER: FaultName = ("filter", 1);
-
-const OF_TABLE: FaultName = ("table", 4);
-
-const OF_PROFILE: FaultName = ("profile", 5);
 
 /// The kinds that more than one source has.
 pub const MEMORY: FaultName = ("Memory", 1);
@@ -56,17 +47,11 @@ const UNUSED: FaultNumber = (None, 0);
 
 const NONE: [FaultNumber; 3] = [UNUSED, UNUSED, UNUSED];
 
-fn named(name: &'static str, value: usize) -> FaultNumber
-    ensures { table.number_of result ≡ (Some name.now, value) }
-{
-    (Some(name), value as u64)
-}
-
 /// The numbers of a kind with one number.
 fn one(name: &'static str, value: usize) -> [FaultNumber; 3]
     ensures { map table.number_of result ≡ table.one name.now value }
 {
-    [named(name, value), UNUSED, UNUSED]
+    [(Some(name), value as u64), UNUSED, UNUSED]
 }
 
 /// Those of what is refused in an entry of a profile, or outside of them.
@@ -79,163 +64,128 @@ fn in_entry(entry: Option<u32>) -> [FaultNumber; 3]
     }
 }
 
-fn kind(status: Status, name: FaultName, numbers: [FaultNumber; 3]) -> FaultKind
-    ensures { table.kind_of result
-        ≡ (status, (name.entry.0.now, name.entry.1), map table.number_of numbers.entry) }
+fn input_kind(fault: InputFault) -> Kind
+    ensures { table.kind_of result ≡ table.input_kind fault }
 {
-    FaultKind {
-        status,
-        name,
-        numbers,
+    match fault {
+        InputFault::Read => (Failed, READ, NONE),
+        InputFault::TooLong => (Failed, TOO_LONG, NONE),
+        InputFault::Memory => (Failed, MEMORY, NONE),
     }
 }
 
-fn input_kind(fault: InputFault) -> FaultKind
-    ensures { table.kind_of result ≡ table.input_kind fault }
-{
-    let name = match fault {
-        InputFault::Read => READ,
-        InputFault::TooLong => TOO_LONG,
-        InputFault::Memory => MEMORY,
-    };
-    kind(Failed, name, NONE)
-}
-
-fn bundle_kind(fault: BundleFault) -> FaultKind
+fn bundle_kind(fault: BundleFault) -> Kind
     ensures { table.kind_of result ≡ table.bundle_kind fault }
 {
-    let (name, offset) = match fault {
-        BundleFault::Header { offset } => ("Header", offset),
-        BundleFault::Short { offset } => ("Short", offset),
-        BundleFault::Memory => return kind(Failed, MEMORY, NONE),
-    };
-    kind(Failed, (name, 0), one("offset", offset))
+    match fault {
+        BundleFault::Header { offset } => (Failed, ("Header", 0), one("offset", offset)),
+        BundleFault::Short { offset } => (Failed, ("Short", 0), one("offset", offset)),
+        BundleFault::Memory => (Failed, MEMORY, NONE),
+    }
 }
 
-fn read_kind(fault: ReadFault) -> FaultKind
+fn read_kind(fault: ReadFault) -> Kind
     ensures { table.kind_of result ≡ table.read_kind fault }
 {
-    let name = match fault {
-        ReadFault::Read => READ,
-        ReadFault::Truncated { offset } => {
-            return kind(Failed, ("Truncated", 3), one("offset", offset));
-        }
-        ReadFault::TooLong => TOO_LONG,
-        ReadFault::Memory => MEMORY,
-    };
-    kind(Failed, name, NONE)
+    match fault {
+        ReadFault::Read => (Failed, READ, NONE),
+        ReadFault::Truncated { offset } => (Failed, ("Truncated", 3), one("offset", offset)),
+        ReadFault::TooLong => (Failed, TOO_LONG, NONE),
+        ReadFault::Memory => (Failed, MEMORY, NONE),
+    }
 }
 
-fn check_kind(fault: CheckFault) -> FaultKind
+fn check_kind(fault: CheckFault) -> Kind
     ensures { table.kind_of result ≡ table.check_kind fault }
 {
-    let (name, at) = match fault {
-        CheckFault::Empty => return kind(Refused, ("Empty", 5), NONE),
-        CheckFault::TooLong => return kind(Refused, TOO_LONG, NONE),
-        CheckFault::Code { at } => (("Code", 6), at),
-        CheckFault::Load { at } => (("Load", 7), at),
-        CheckFault::Scratch { at } => (("Scratch", 8), at),
-        CheckFault::Divisor { at } => (("Divisor", 9), at),
-        CheckFault::Shift { at } => (("Shift", 10), at),
-        CheckFault::Jump { at } => (("Jump", 11), at),
-        CheckFault::LastNotReturn => return kind(Refused, ("LastNotReturn", 12), NONE),
+    match fault {
+        CheckFault::Empty => (Refused, ("Empty", 5), NONE),
+        CheckFault::TooLong => (Refused, TOO_LONG, NONE),
+        CheckFault::Code { at } => (Refused, ("Code", 6), one("at", at)),
+        CheckFault::Load { at } => (Refused, ("Load", 7), one("at", at)),
+        CheckFault::Scratch { at } => (Refused, ("Scratch", 8), one("at", at)),
+        CheckFault::Divisor { at } => (Refused, ("Divisor", 9), one("at", at)),
+        CheckFault::Shift { at } => (Refused, ("Shift", 10), one("at", at)),
+        CheckFault::Jump { at } => (Refused, ("Jump", 11), one("at", at)),
+        CheckFault::LastNotReturn => (Refused, ("LastNotReturn", 12), NONE),
         CheckFault::Unset { at, word } => {
-            let numbers = [named("at", at), named("word", usize::from(word)), UNUSED];
-            return kind(Refused, ("Unset", 13), numbers);
+            let at = (Some("at"), at as u64);
+            let word = (Some("word"), u64::from(word));
+            (Refused, ("Unset", 13), [at, word, UNUSED])
         }
-        CheckFault::Memory => return kind(Failed, MEMORY, NONE),
-    };
-    kind(Refused, name, one("at", at))
+        CheckFault::Memory => (Failed, MEMORY, NONE),
+    }
 }
 
-fn text_kind(fault: TextFault) -> FaultKind
+fn text_kind(fault: TextFault) -> Kind
     ensures { table.kind_of result ≡ table.text_kind fault }
 {
-    let (name, line) = match fault {
-        TextFault::NotAscii { line } => (("NotAscii", 14), line),
-        TextFault::Mnemonic { line } => (("Mnemonic", 15), line),
-        TextFault::Operand { line } => (("Operand", 16), line),
-        TextFault::NumberRange { line } => (("NumberRange", 17), line),
-        TextFault::Label { line } => (("Label", 18), line),
-        TextFault::JumpTooFar { line } => (("JumpTooFar", 19), line),
-        TextFault::TooLong { line } => (TOO_LONG, line),
-        TextFault::Memory => return kind(Failed, MEMORY, NONE),
-    };
-    kind(Refused, name, one("line", line))
+    match fault {
+        TextFault::NotAscii { line } => (Refused, ("NotAscii", 14), one("line", line)),
+        TextFault::Mnemonic { line } => (Refused, ("Mnemonic", 15), one("line", line)),
+        TextFault::Operand { line } => (Refused, ("Operand", 16), one("line", line)),
+        TextFault::NumberRange { line } => (Refused, ("NumberRange", 17), one("line", line)),
+        TextFault::Label { line } => (Refused, ("Label", 18), one("line", line)),
+        TextFault::JumpTooFar { line } => (Refused, ("JumpTooFar", 19), one("line", line)),
+        TextFault::TooLong { line } => (Refused, TOO_LONG, one("line", line)),
+        TextFault::Memory => (Failed, MEMORY, NONE),
+    }
 }
 
-fn table_kind(fault: TableFault) -> FaultKind
+fn table_kind(fault: TableFault) -> Kind
     ensures { table.kind_of result ≡ table.table_kind fault }
 {
-    let (name, line) = match fault {
-        TableFault::Form { line } => (("Form", 20), line),
-        TableFault::Name { line } => (("Name", 21), line),
-        TableFault::Number { line } => (("Number", 22), line),
-        TableFault::Repeated { line } => (("Repeated", 23), line),
-        TableFault::Memory => return kind(Failed, MEMORY, NONE),
-    };
-    kind(Refused, name, one("line", line))
+    match fault {
+        TableFault::Form { line } => (Refused, ("Form", 20), one("line", line)),
+        TableFault::Name { line } => (Refused, ("Name", 21), one("line", line)),
+        TableFault::Number { line } => (Refused, ("Number", 22), one("line", line)),
+        TableFault::Repeated { line } => (Refused, ("Repeated", 23), one("line", line)),
+        TableFault::Memory => (Failed, MEMORY, NONE),
+    }
 }
 
-fn load_kind(fault: LoadFault) -> FaultKind
+fn load_kind(fault: LoadFault) -> Kind
     ensures { table.kind_of result ≡ table.load_kind fault }
 {
-    let (name, entry) = match fault {
-        LoadFault::Json => return kind(Refused, ("Json", 24), NONE),
-        LoadFault::Missing { entry } => (("Missing", 25), entry),
-        LoadFault::Kind { entry } => (("Kind", 26), entry),
-        LoadFault::Action { entry } => (("Action", 27), entry),
-        LoadFault::Operator { entry } => (("Operator", 28), entry),
-        LoadFault::EmptyNames { entry } => (("EmptyNames", 29), entry),
-        LoadFault::Index { entry } => (("Index", 30), entry),
-        LoadFault::RepeatedIndex { entry } => (("RepeatedIndex", 31), entry),
-        LoadFault::Errno { entry } => (("Errno", 32), entry),
-        LoadFault::ErrnoRange { entry } => (("ErrnoRange", 33), entry),
-        LoadFault::NoX8664 { entry } => (("NoX8664", 34), entry),
-        LoadFault::NotListed { table } => {
-            return kind(Refused, ("NotListed", 39), one("table", table));
-        }
-        LoadFault::EngineForm { entry } => (("EngineForm", 35), entry),
-        LoadFault::TooMany => return kind(Refused, TOO_MANY, NONE),
+    match fault {
+        LoadFault::Json => (Refused, ("Json", 24), NONE),
+        LoadFault::Missing { entry } => (Refused, ("Missing", 25), in_entry(entry)),
+        LoadFault::Kind { entry } => (Refused, ("Kind", 26), in_entry(entry)),
+        LoadFault::Action { entry } => (Refused, ("Action", 27), in_entry(entry)),
+        LoadFault::Operator { entry } => (Refused, ("Operator", 28), in_entry(entry)),
+        LoadFault::EmptyNames { entry } => (Refused, ("EmptyNames", 29), in_entry(entry)),
+        LoadFault::Index { entry } => (Refused, ("Index", 30), in_entry(entry)),
+        LoadFault::RepeatedIndex { entry } => (Refused, ("RepeatedIndex", 31), in_entry(entry)),
+        LoadFault::Errno { entry } => (Refused, ("Errno", 32), in_entry(entry)),
+        LoadFault::ErrnoRange { entry } => (Refused, ("ErrnoRange", 33), in_entry(entry)),
+        LoadFault::NoX8664 { entry } => (Refused, ("NoX8664", 34), in_entry(entry)),
+        LoadFault::NotListed { table } => (Refused, ("NotListed", 39), one("table", table)),
+        LoadFault::EngineForm { entry } => (Refused, ("EngineForm", 35), in_entry(entry)),
+        LoadFault::TooMany => (Refused, TOO_MANY, NONE),
         LoadFault::Conflict {
             number,
             first,
             second,
         } => {
-            let numbers = [
-                named("number", number as usize),
-                named("first", first as usize),
-                named("second", second as usize),
-            ];
-            return kind(Refused, ("Conflict", 37), numbers);
+            let number = (Some("number"), u64::from(number));
+            let first = (Some("first"), u64::from(first));
+            let second = (Some("second"), u64::from(second));
+            (Refused, ("Conflict", 37), [number, first, second])
         }
-        LoadFault::Memory => return kind(Failed, MEMORY, NONE),
-    };
-    kind(Refused, name, in_entry(entry))
-}
-
-fn compile_kind(fault: CompileFault) -> FaultKind
-    ensures { table.kind_of result ≡ table.compile_kind fault }
-{
-    match fault {
-        CompileFault::TooLarge => kind(Refused, ("TooLarge", 38), NONE),
-        CompileFault::Memory => kind(Failed, MEMORY, NONE),
+        LoadFault::Memory => (Failed, MEMORY, NONE),
     }
 }
 
-fn push_kind(fault: PushFault) -> FaultKind
-    ensures { table.kind_of result ≡ table.push_kind fault }
+fn row(source: FaultName, kind: Kind) -> FaultRow
+    ensures { table.row_of result ≡ ((source.entry.0.now, source.entry.1), table.kind_of kind.entry) }
 {
-    match fault {
-        PushFault::TooMany { total } => kind(Refused, TOO_MANY, one("total", total)),
-        PushFault::Memory => kind(Failed, MEMORY, NONE),
+    let (status, kind, numbers) = kind;
+    FaultRow {
+        source,
+        status,
+        kind,
+        numbers,
     }
-}
-
-fn row(source: FaultName, kind: FaultKind) -> FaultRow
-    ensures { table.row_of result ≡ ((source.entry.0.now, source.entry.1), table.kind_of kind) }
-{
-    FaultRow { source, kind }
 }
 
 pub fn text_row(fault: TextFault) -> FaultRow
@@ -247,7 +197,11 @@ pub fn text_row(fault: TextFault) -> FaultRow
 pub fn compile_row(fault: CompileFault) -> FaultRow
     ensures { table.row_of result ≡ table.compile_row fault }
 {
-    row(("compile", 6), compile_kind(fault))
+    let kind = match fault {
+        CompileFault::TooLarge => (Refused, ("TooLarge", 38), NONE),
+        CompileFault::Memory => (Failed, MEMORY, NONE),
+    };
+    row(("compile", 6), kind)
 }
 
 /// The row of what stops a comparison.
@@ -255,14 +209,17 @@ pub fn verify_row(fault: VerifyFault) -> FaultRow
     ensures { table.row_of result ≡ table.verify_row fault }
 {
     let (source, kind) = match fault {
-        VerifyFault::FilterRead(fault) => (OF_FILTER, read_kind(fault)),
-        VerifyFault::Check(fault) => (OF_FILTER, check_kind(fault)),
-        VerifyFault::Stack(fault) => (("stack", 7), push_kind(fault)),
-        VerifyFault::TableRead(fault) => (OF_TABLE, input_kind(fault)),
-        VerifyFault::Table(fault) => (OF_TABLE, table_kind(fault)),
-        VerifyFault::ProfileRead(fault) => (OF_PROFILE, input_kind(fault)),
-        VerifyFault::Profile(fault) => (OF_PROFILE, load_kind(fault)),
-        VerifyFault::Memory => (("compare", 8), kind(Failed, MEMORY, NONE)),
+        VerifyFault::FilterRead(fault) => (("filter", 1), read_kind(fault)),
+        VerifyFault::Check(fault) => (("filter", 1), check_kind(fault)),
+        VerifyFault::Stack(PushFault::TooMany { total }) => {
+            (("stack", 7), (Refused, TOO_MANY, one("total", total)))
+        }
+        VerifyFault::Stack(PushFault::Memory) => (("stack", 7), (Failed, MEMORY, NONE)),
+        VerifyFault::TableRead(fault) => (("table", 4), input_kind(fault)),
+        VerifyFault::Table(fault) => (("table", 4), table_kind(fault)),
+        VerifyFault::ProfileRead(fault) => (("profile", 5), input_kind(fault)),
+        VerifyFault::Profile(fault) => (("profile", 5), load_kind(fault)),
+        VerifyFault::Memory => (("compare", 8), (Failed, MEMORY, NONE)),
     };
     row(source, kind)
 }
@@ -271,12 +228,11 @@ pub fn verify_row(fault: VerifyFault) -> FaultRow
 pub fn side_row(fault: SideFault) -> FaultRow
     ensures { table.row_of result ≡ table.side_row fault }
 {
-    let alone = verify_row(fault.why);
+    let mut row = verify_row(fault.why);
     if fault.beside {
-        row(("beside", 2), alone.kind)
-    } else {
-        alone
+        row.source = ("beside", 2);
     }
+    row
 }
 
 fn request_row(fault: RequestFault) -> FaultRow
@@ -289,7 +245,7 @@ fn request_row(fault: RequestFault) -> FaultRow
         RequestFault::Reading => ("command", "Reading"),
         RequestFault::Range => ("command", "Range"),
     };
-    row((source, 0), kind(CommandLine, (name, 0), NONE))
+    row((source, 0), (CommandLine, (name, 0), NONE))
 }
 
 impl Fault {
@@ -297,24 +253,17 @@ impl Fault {
         ensures { table.row_of result ≡ table.fault_row self }
     {
         let (source, kind) = match self {
-            Fault::CommandLine => ("command", kind(Failed, MEMORY, NONE)),
+            Fault::CommandLine => ("command", (Failed, MEMORY, NONE)),
             Fault::Request(fault) => return request_row(fault),
             Fault::Input(fault) => ("input", input_kind(fault)),
             Fault::Bundle(fault) => ("bundle", bundle_kind(fault)),
-            Fault::Parts => ("bundle", kind(Failed, ("Parts", 0), NONE)),
+            Fault::Parts => ("bundle", (Failed, ("Parts", 0), NONE)),
             Fault::Text(fault) => return text_row(fault),
             Fault::Compile(fault) => return compile_row(fault),
             Fault::Sides(fault) => return side_row(fault),
-            Fault::Answers => ("answers", kind(Failed, MEMORY, NONE)),
-            Fault::Calls => ("command", kind(CommandLine, ("Calls", 0), NONE)),
+            Fault::Answers => ("answers", (Failed, MEMORY, NONE)),
+            Fault::Calls => ("command", (CommandLine, ("Calls", 0), NONE)),
         };
         row((source, 0), kind)
-    }
-
-    /// The fault's exit status.
-    pub(crate) fn status(self) -> Status
-        ensures { result ≡ (table.printed_fault self).0 }
-    {
-        self.row().kind.status
     }
 }

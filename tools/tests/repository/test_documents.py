@@ -28,7 +28,7 @@ def fault_rows():
     kinds, actual = re.findall(rf"^(\w+_kind) [^=]+=\s+{KIND}$", text, re.M), {}
     beside = re.search(rf"fault.beside then {NAME}", text).groups()
     for of, *source, function, status, kind, number, numbers in re.findall(
-            rf"^(\w+)_row [^=]+= \({NAME}, (?:(\w+) fault|{KIND})\)$", text, re.M):
+            rf"^(\w+)_row [^=]+=\s+\({NAME}, (?:(\w+) fault|{KIND})\)$", text, re.M):
         own = [row[1:] for row in kinds if row[0] == function] or [(status, kind, number, numbers)]
         for name, place in (source, beside) if of == "verify" else (source,):
             for status, kind, number, numbers in own:
