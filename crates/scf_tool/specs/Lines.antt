@@ -1,5 +1,5 @@
 -- The lines that the program prints.
-use Rattle.std.specs.Prelude.{ℕ, List, [], ◌++◌, codes, length, Option, Some, None}
+use Rattle.std.specs.Prelude.{ℕ, List, ◌++◌, codes, length, Option, Some, None}
 use Rattle.std.specs.List.{flat_map}
 use Rattle.std.specs.Fmt.{decimal}
 use Rattle.scf_insn.specs.declared.answer.Action.{Action}
@@ -39,14 +39,10 @@ steps_text steps = codes " steps " ++ decimal steps ++ codes "\n"
 abbrev pub insn_text : ℕ → ℕ → List ℕ
 insn_text filter index = codes " at " ++ (decimal filter ++ (codes ":" ++ decimal index))
 
--- what gives a stack its answer, behind the answer: nothing where there is no filter
-abbrev pub by_text : Option DecidingInsn → List ℕ
-by_text None = []
-by_text (Some by) = insn_text by.filter by.index
-
--- the line of the answer of a stack and of what gives it
+-- the line of the answer of a stack and of what gives it, which is nothing where there is no filter
 abbrev pub decision_text : Option DecidingInsn → ℕ → List ℕ
-decision_text by answer = answer_text answer ++ (by_text by ++ codes "\n")
+decision_text None answer = answer_text answer ++ codes "\n"
+decision_text (Some by) answer = answer_text answer ++ (insn_text by.filter by.index ++ codes "\n")
 
 -- the lines of a run whose way is shown: its answer and its steps, and the indices on the way
 abbrev pub traced_text : ℕ → List ℕ → List ℕ
