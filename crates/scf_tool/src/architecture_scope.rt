@@ -1,8 +1,8 @@
 //! Over which records of an architecture sides are compared, and whether there are some.
 
-ghost use Rattle.std.specs.Prelude.{◌≡◌, ◌↔◌, ◌+◌, ◌<◌, ◌^◌, ℕ, IfErr, IfOk, IsTrue, List, map};
+ghost use Rattle.std.specs.Prelude.{◌≡◌, ◌↔◌, ◌<◌, ℕ, IfErr, IfOk, IsTrue, List, length, map};
 ghost use Rattle.std.specs.List.{AllZip};
-ghost use Rattle.scf_insn.specs.Architectures.{row_of};
+ghost use Rattle.scf_profile.specs.NamedCalls.{HasItsNames};
 ghost use Rattle.scf_request.specs.Contents.{rest_of_table};
 ghost use Rattle.scf_tool.specs.ArchitectureScopes.{HasRecordAmong, NameNoCall};
 ghost use Rattle.scf_tool.specs.ArchitectureScopes as spec;
@@ -10,7 +10,7 @@ ghost use Rattle.scf_tool.specs.Inputs.{SpellsTable, named_of};
 
 use crate::owned_table::OwnedTable;
 use scf_insn::Architecture;
-use scf_profile::Scope;
+use scf_profile::{NamedCall, Scope};
 use scf_request::{BundleFault, PartReader, TableReader, has_record};
 use std::alloc::Global;
 
@@ -29,14 +29,19 @@ pub fn scope_of(scope: Scope, architecture: Architecture) -> Scope
     }
 }
 
-/// The records of a syscall that an architecture's table has under a number.
-pub(crate) fn scope_of_call(architecture: Architecture, number: u32) -> Scope
-    requires { (row_of architecture).first + number < 2 ^ 32 }
-    ensures { result ≡ spec.scope_of_call architecture number }
+/// The records of a call of an architecture's table. The table is asked for its number, which promises that it is below
+/// 0x40000000.
+pub(crate) fn scope_of_call(table: &OwnedTable, call: &NamedCall<'_>) -> Scope
+    requires named { 0 < length call.now.names.items }
+    requires names { HasItsNames table.now.table call.now }
+    ensures { result ≡ spec.scope_of_call table.now.architecture call.now.number }
 {
-    let nr = architecture.first() + number;
+    let Some(number) = table.table.number_of(call.names[0]) else {
+        unreachable!();
+    };
+    let nr = table.architecture.first() + number;
     Scope::Numbers {
-        architecture,
+        architecture: table.architecture,
         first: nr,
         last: nr,
     }

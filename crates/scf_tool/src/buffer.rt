@@ -39,10 +39,8 @@ pub fn encoding_of(alloc: Global, insns: &[Insn]) -> Result<Vec<u8>, Memory>
 {
     let bytes = Vec::new(alloc);
     let mut encoding = Buffer { bytes, failures: 0 };
-    match write_program(insns, &mut encoding) {
-        Ok(()) => Ok(encoding.bytes),
-        Err(_) => Err(Memory),
-    }
+    write_program(insns, &mut encoding).map_err(|_| Memory)?;
+    Ok(encoding.bytes)
 }
 
 /// The listing of instructions.
@@ -51,8 +49,6 @@ pub fn listing_of(alloc: Global, insns: &[Insn]) -> Result<Vec<u8>, Memory>
 {
     let bytes = Vec::new(alloc);
     let mut listing = Buffer { bytes, failures: 0 };
-    match disassemble(insns, &mut listing) {
-        Ok(()) => Ok(listing.bytes),
-        Err(_) => Err(Memory),
-    }
+    disassemble(insns, &mut listing).map_err(|_| Memory)?;
+    Ok(listing.bytes)
 }

@@ -36,10 +36,8 @@ pub(crate) fn explain(alloc: Global, error: &Error) -> Result<Reply, Fault>
     } else {
         Status::Success
     };
-    match format!(in alloc; "{error}") {
-        Ok(text) => Ok(Reply::CommandLine { text, status }),
-        Err(_) => Err(Fault::CommandLine),
-    }
+    let text = format!(in alloc; "{error}").map_err(|_| Fault::CommandLine)?;
+    Ok(Reply::CommandLine { text, status })
 }
 
 /// Prints that memory ran out before any input was read. Returns the exit status.

@@ -1,9 +1,8 @@
 //! What comparisons find: at once over a scope, or call by call of a syscall table.
 
-ghost use Rattle.std.specs.Prelude.{◌≡◌, ◌<◌, ◌∷◌, [], IfOk, length, map};
+ghost use Rattle.std.specs.Prelude.{◌≡◌, ◌∷◌, [], IfOk, length, map};
 ghost use Rattle.std.specs.List.{AllZip};
-ghost use Rattle.scf_insn.specs.Kernel.{x32_syscall_bit};
-ghost use Rattle.scf_profile.specs.NamedCalls.{AreCallsOf, HasItsNames};
+ghost use Rattle.scf_profile.specs.NamedCalls.{AreCallsOf};
 ghost use Rattle.scf_profile.specs.References.{texts_at};
 ghost use Rattle.scf_tool.specs.ArchitectureScopes as spec;
 ghost use Rattle.scf_tool.specs.Comparisons as comparisons;
@@ -19,7 +18,7 @@ use crate::plan::{Pairing, compare_each};
 use crate::sides::{SideInput, SidesInput};
 use scf_compare::{Finding, Limit, Side, Splits};
 use scf_insn::Memory;
-use scf_profile::{CallTable, NamedCall, Profile, Scope, Texts};
+use scf_profile::{NamedCall, Profile, Scope, Texts};
 use scf_request::{Comparison, Limits, Scopes};
 use std::alloc::{AllocError, Global};
 use std::slice;
@@ -62,19 +61,6 @@ fn owned_texts(alloc: Global, words: &[&str]) -> Result<Texts, AllocError>
         list.push(String::from_str(alloc, word)?)?;
     }
     Ok(Texts::from_vec(list))
-}
-
-/// The number of a call of a table. The table is asked for it, which promises that it is below 0x40000000.
-fn number_in(table: &CallTable, call: &NamedCall<'_>) -> u32
-    requires named { 0 < length call.now.names.items }
-    requires names { HasItsNames table.now call.now }
-    ensures same { result ≡ call.now.number }
-    ensures below { result < x32_syscall_bit }
-{
-    match table.number_of(call.names[0]) {
-        Some(number) => number,
-        None => unreachable!(),
-    }
 }
 
 /// The limit of each comparison; 2^64-1 splits stand for no limit of them.
@@ -159,7 +145,7 @@ pub fn pairings_of_calls<'a>(
         pairings.push(Pairing {
             left,
             right,
-            over: scope_of_call(table.architecture, number_in(&table.table, call)),
+            over: scope_of_call(table, call),
         })?;
     }
     Ok(pairings)
@@ -220,13 +206,9 @@ fn compare_calls(
     let left = sides.left.side();
     let right = sides.right.side();
     let pairings = pairings_of_calls(alloc, left, right, table, &calls)?;
-    let findings = compare_each(
-        alloc,
-        &pairings,
-        comparison.relation,
-        limit_of(comparison.limits),
-        Some(comparison.limits.total),
-    )?;
+    let limit = limit_of(comparison.limits);
+    let total = Some(comparison.limits.total);
+    let findings = compare_each(alloc, &pairings, comparison.relation, limit, total)?;
     Ok(Findings {
         joint: joint_finding(&findings),
         calls: Some(named_findings(alloc, &calls, &findings)?),
@@ -255,10 +237,7 @@ pub(crate) fn findings_of(
         sides.now.right (map named_of sides.now.tables.items)) }
 {
     match comparison.scopes {
-        Scopes::AtOnce(scope) => {
-            let finding = compare_at_once(alloc, sides, scope, comparison)?;
-            Ok(finding)
-        }
+        Scopes::AtOnce(scope) => compare_at_once(alloc, sides, scope, comparison),
         Scopes::EachCall => {
             if sides.tables.len() != 1 {
                 return Ok(Findings {
@@ -266,8 +245,7 @@ pub(crate) fn findings_of(
                     calls: Some(Vec::new(alloc)),
                 });
             }
-            let calls = compare_calls(alloc, sides, &sides.tables[0], comparison)?;
-            Ok(calls)
+            compare_calls(alloc, sides, &sides.tables[0], comparison)
         }
     }
 }

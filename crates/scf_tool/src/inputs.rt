@@ -74,13 +74,6 @@ pub(crate) struct Inputs<'a> {
     pub counts: Vec<OwnedTable>,
 }
 
-/// Whether a part is of an architecture.
-fn is_of(part: &TableReader<PartReader<'_>>, architecture: Architecture) -> bool
-    ensures { result ≡ is_named (row_of architecture).name part.now.architecture }
-{
-    part.architecture.name() == architecture.name()
-}
-
 /// How many of the parts are of an architecture.
 #[tactic(auto, using(crate::proofs::TableLemmas::texts_counted))]
 fn count_of(parts: &[TableReader<PartReader<'_>>], architecture: Architecture) -> usize
@@ -88,7 +81,7 @@ fn count_of(parts: &[TableReader<PartReader<'_>>], architecture: Architecture) -
 {
     parts
         .iter()
-        .filter(|part| is_of(part, architecture))
+        .filter(|part| part.architecture.name() == architecture.name())
         .count()
 }
 
@@ -122,24 +115,15 @@ fn is_table_count(form: BundleForm, over: Scopes, count: usize) -> bool
 }
 
 /// Whether there are the tables that go with a profile, no two of one architecture, each with a stub or without one,
-/// whatever text that has.
-fn are_tables(form: BundleForm, over: Scopes, contents: &Contents<'_>) -> bool
-    ensures { IsTrue result ↔ (IsTableCount form over (length (map rest_of_table contents.now.tables.items))
-        × All (ArePartsOfOne (map rest_of_table contents.now.tables.items)
-        (map rest_of_table contents.now.stubs.items)) architectures) }
-{
-    is_table_count(form, over, contents.tables.len())
-        && are_distinct(&contents.tables, &contents.stubs)
-}
-
-/// Whether there are the tables that go with a profile, or none without one.
+/// whatever text that has; or none without a profile.
 fn has_tables(form: BundleForm, over: Scopes, contents: &Contents<'_>) -> bool
     ensures { IsTrue result ↔ HasTables (map rest_of contents.now.profiles.items) form over (held_by contents.now) }
 {
     if contents.profiles.is_empty() {
         contents.tables.is_empty() && contents.stubs.is_empty() && contents.counts.is_empty()
     } else {
-        are_tables(form, over, contents)
+        is_table_count(form, over, contents.tables.len())
+            && are_distinct(&contents.tables, &contents.stubs)
     }
 }
 
@@ -183,21 +167,15 @@ fn sides_among<'a>(
 {
     let none = SideParts::Filters(Vec::new(alloc));
     let has_filters = !filters.is_empty();
-    match (
-        takes,
-        has_filters,
-        at_most_one(profiles)?,
-        at_most_one(beside)?,
-    ) {
-        (Takes::Filters | Takes::Either, _, None, None) => {
-            Some((SideParts::Filters(filters), none))
-        }
+    let filters = SideParts::Filters(filters);
+    let profile = at_most_one(profiles)?;
+    let beside = at_most_one(beside)?;
+    match (takes, has_filters, profile, beside) {
+        (Takes::Filters | Takes::Either, _, None, None) => Some((filters, none)),
         (Takes::Profile | Takes::Either, false, Some(profile), None) => {
             Some((SideParts::Profile(profile), none))
         }
-        (Takes::Sides, true, Some(profile), None) => {
-            Some((SideParts::Filters(filters), SideParts::Profile(profile)))
-        }
+        (Takes::Sides, true, Some(profile), None) => Some((filters, SideParts::Profile(profile))),
         (Takes::Sides, false, Some(profile), Some(beside)) => {
             Some((SideParts::Profile(profile), SideParts::Profile(beside)))
         }
@@ -231,27 +209,26 @@ fn inputs_among<'a>(
     let profiles = contents.profiles;
     let beside = contents.beside;
     let beside_profiles = contents.beside_profiles;
-    let tables = contents.tables;
     let sides = match shape.form {
         BundleForm::Beside { .. } => {
             Some((SideParts::Filters(filters), SideParts::Filters(beside)))
         }
         _ => sides_among(alloc, shape.takes, filters, profiles, beside_profiles),
     };
-    match sides {
-        Some((left, right)) => Ok(Some(Inputs {
-            left,
-            right,
-            tables,
-            rules: TextRules {
-                by,
-                of_each: matches!(shape.form, BundleForm::Architectures),
-                is_limited: matches!(shape.takes, Takes::Sides),
-            },
-            counts,
-        })),
-        None => Ok(None),
-    }
+    let Some((left, right)) = sides else {
+        return Ok(None);
+    };
+    Ok(Some(Inputs {
+        left,
+        right,
+        tables: contents.tables,
+        rules: TextRules {
+            by,
+            of_each: matches!(shape.form, BundleForm::Architectures),
+            is_limited: matches!(shape.takes, Takes::Sides),
+        },
+        counts,
+    }))
 }
 
 /// The inputs that a command takes from a bundle.

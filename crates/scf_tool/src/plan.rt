@@ -41,25 +41,19 @@ fn compare_next(
     ensures { IfOk result (λ finding. IsFoundNext relation limit shared.old pairing.now finding shared.new) }
 {
     word_sets_start_exact();
+    let Pairing { left, right, over } = pairing;
     match shared {
         Some(shared) => compare_sides_within::<WordSets>(
             alloc,
-            &pairing.left,
-            &pairing.right,
-            pairing.over,
+            left,
+            right,
+            *over,
             relation,
             limit,
             &mut shared.steps,
             &mut shared.below,
         ),
-        None => compare_sides::<WordSets>(
-            alloc,
-            &pairing.left,
-            &pairing.right,
-            pairing.over,
-            relation,
-            limit,
-        ),
+        None => compare_sides::<WordSets>(alloc, left, right, *over, relation, limit),
     }
 }
 

@@ -87,10 +87,7 @@ fn read_filters<'a>(alloc: Global, side: SideParts<'a>) -> Result<OpenSide<'a>, 
     ensures refused { IfErr result (λ fault. ReadsFilters (side_bytes side.entry) (Some fault)) }
 {
     match side {
-        SideParts::Filters(filters) => {
-            let mut filters = filters;
-            Ok(OpenSide::Stack(stack_of(alloc, &mut filters)?))
-        }
+        SideParts::Filters(mut filters) => Ok(OpenSide::Stack(stack_of(alloc, &mut filters)?)),
         SideParts::Profile(profile) => Ok(OpenSide::Profile(profile)),
     }
 }
@@ -149,7 +146,7 @@ pub(crate) fn read_sides(
     ensures sides { IfOk result (AreRead (inputs_of inputs.entry)) }
     ensures refused { IfErr result (λ fault. AreRefused (inputs_of inputs.entry) fault.beside fault.why) }
 {
-    let is_beside = is_profile(&inputs.left);
+    let beside = is_profile(&inputs.left);
     let rules = inputs.rules;
     let parts = inputs.tables;
     let counts = inputs.counts;
@@ -162,12 +159,7 @@ pub(crate) fn read_sides(
     let left = read_side(alloc, &rules, &tables, open_left)?;
     let right = match read_side(alloc, &rules, &tables, open_right) {
         Ok(side) => side,
-        Err(why) => {
-            return Err(SideFault {
-                beside: is_beside,
-                why,
-            });
-        }
+        Err(why) => return Err(SideFault { beside, why }),
     };
     Ok(SidesInput {
         left,

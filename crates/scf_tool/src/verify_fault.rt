@@ -6,11 +6,10 @@ ghost use Rattle.scf_tool.specs.declared.verify_fault.VerifyFault.TheVariants as
 use scf_insn::{InputFault, Memory, ReadFault};
 use scf_machine::{CheckFault, PushFault};
 use scf_profile::{LoadFault, TableFault};
-use std::fmt;
 use thiserror::Error;
 
 /// Why inputs weren't compared.
-#[derive(Clone, Copy, Error)]
+#[derive(Clone, Copy, Debug, Error)]
 pub enum VerifyFault {
     #[error("filter: {0}")]
     FilterRead(ReadFault),
@@ -29,12 +28,6 @@ pub enum VerifyFault {
     Profile(LoadFault),
     #[error("out of memory")]
     Memory,
-}
-
-impl fmt::Debug for VerifyFault {
-    fn fmt<W: fmt::Write>(&self, f: &mut fmt::Formatter<W>) -> fmt::Result {
-        fmt::Display::fmt(self, f)
-    }
 }
 
 impl From<ReadFault> for VerifyFault {

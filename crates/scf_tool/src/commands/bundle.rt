@@ -60,15 +60,13 @@ fn check_calls(
     ensures fault { IfErr result (λ fault. ((fault ≡ Fault.Calls) × NameNoCall (map rest_of_table tables.now))
         ⊎ (fault ≡ Fault.Bundle BundleFault.Memory)) }
 {
-    match valid_tables(alloc, tables)? {
-        Some(read) => {
-            if name_no_call(alloc, &read)? {
-                return Err(Fault::Calls);
-            }
-            Ok(Some(read))
-        }
-        None => Ok(None),
+    let Some(read) = valid_tables(alloc, tables)? else {
+        return Ok(None);
+    };
+    if name_no_call(alloc, &read)? {
+        return Err(Fault::Calls);
     }
+    Ok(Some(read))
 }
 
 /// Checks that a command goes over a record under its tables. Returns the tables, if they are read for this. The error:

@@ -7,7 +7,6 @@ ghost use Rattle.scf_tool.specs.Commands.{EndsOnFilter};
 ghost use Rattle.scf_request.specs.declared.request.Command.TheVariants as commands;
 ghost use Rattle.scf_tool.specs.Lines.{traced_text};
 ghost use Rattle.scf_tool.specs.Statuses.{LeavesFilter};
-ghost use Rattle.scf_tool.specs.declared.verify_fault.VerifyFault.TheVariants as verifies;
 
 use crate::buffer::listing_of;
 use crate::fault::Fault;
@@ -42,11 +41,7 @@ pub(super) fn run_filter<R: Source>(
 }
 
 /// Memory ran out for what is printed of a filter.
-fn no_memory(_why: Memory) -> VerifyFault
-    ensures { result ≡ verifies.FilterRead ReadFault.Memory }
-{
-    VerifyFault::FilterRead(ReadFault::Memory)
-}
+const NO_MEMORY: VerifyFault = VerifyFault::FilterRead(ReadFault::Memory);
 
 /// The lines of a filter's run on a call and its way.
 fn traced(alloc: Global, program: &Program, call: &CallRecord) -> Result<Vec<u8>, Memory>
@@ -67,7 +62,7 @@ pub(super) fn trace_filter<R: Source>(
     ensures input { LeavesFilter R.remaining R.failures input.old result input.new }
 {
     let program = read_filter(alloc, input)?;
-    Ok(Reply::Bytes(traced(alloc, &program, call).map_err(no_memory)?))
+    Ok(Reply::Bytes(traced(alloc, &program, call).map_err(|_| NO_MEMORY)?))
 }
 
 /// `dis`: the listing of a filter, which isn't checked.
@@ -76,5 +71,5 @@ pub(super) fn list_filter<R: Source>(alloc: Global, input: &mut R) -> Result<Rep
     ensures input { LeavesFilter R.remaining R.failures input.old result input.new }
 {
     let insns = read_program(alloc, input).map_err(VerifyFault::FilterRead)?;
-    Ok(Reply::Bytes(listing_of(alloc, &insns).map_err(no_memory)?))
+    Ok(Reply::Bytes(listing_of(alloc, &insns).map_err(|_| NO_MEMORY)?))
 }

@@ -17,7 +17,7 @@ named_findings-requires c =
     let comparison = c.args.comparison in
     let of_call : NamedCall → Pairing =
     pairing_of_call c.side-left.result c.side-right.result c.args.table.now.architecture in
-    let found = rw (c.deref-2.ensures.value, c.in_ok-pairings.ensures, c.deref.ensures.value, c.limit_of.ensures)
+    let found = rw (c.deref-2.ensures.value, c.in_ok-pairings.ensures, c.deref.ensures.value, c.limit_of-limit.ensures)
     at c.in_ok-findings.ensures in
     rw (c.deref-5.ensures.value, c.deref-4.ensures.value)
     (as_many (IsFoundOfInTurn comparison.relation (limit_of comparison.limits)) of_call comparison.limits.total
@@ -35,7 +35,7 @@ returns c =
     let Found : Behavior → Behavior → ℕ → List Finding → Type 0 = λ left right after findings.
     AreFound (λ remaining call. IsFoundInTurn comparison.relation left right (scope_of_call architecture call.number)
     limit remaining) comparison.limits.total calls findings after in
-    let found = rw (c.deref-2.ensures.value, c.in_ok-pairings.ensures, c.deref.ensures.value, c.limit_of.ensures)
+    let found = rw (c.deref-2.ensures.value, c.in_ok-pairings.ensures, c.deref.ensures.value, c.limit_of-limit.ensures)
     at c.in_ok-findings.ensures in
     let each : Found (behavior_of c.side-left.result) (behavior_of c.side-right.result) found.0 c.in_ok-findings.findings.items =
     found_of_each (IsFoundOfInTurn comparison.relation limit) of_call comparison.limits.total calls

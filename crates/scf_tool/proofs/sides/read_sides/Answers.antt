@@ -37,7 +37,7 @@ pub returns-in-Err-read_side-clause-refused : goal.returns-in-Err-read_side-clau
 returns-in-Err-read_side-clause-refused c =
     let left = c.in_ok-left.ensures (side_bytes c.args.inputs.left) c.in_ok-open_left.ensures.filters in
     let refused = c.in-Err-read_side.ensures (side_bytes c.args.inputs.right) c.in-Ok.ensures.filters in
-    rw c.is_profile-is_beside.ensures
+    rw c.is_profile-beside.ensures
     (by_right_profile c.in-Err-read_side.why (map named_of c.in_ok-tables.tables.items) c.in_ok-left.left
     (open_has_stack (side_bytes c.args.inputs.right) c.in-Ok.side c.in-Ok.ensures.filters)
     (rw c.deref.ensures.value at c.in_ok-tables.ensures.tables) (rw c.deref-2.ensures.value at left)
