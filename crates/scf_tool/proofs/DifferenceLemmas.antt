@@ -19,11 +19,12 @@ use Rattle.scf_profile.specs.Scope.{IsInScope}
 use Rattle.scf_profile.specs.declared.relation.Relation.TheVariants.{Same}
 use Rattle.scf_profile.specs.declared.scope.Scope.{Scope}
 use Rattle.scf_tool.proofs.Common.{Bool, IfSome, List, None, Option, Some, [], arith, false, inl, inr, not, refl, true, ℕ, ◌≡◌, ◌⊎◌}
-use Rattle.scf_tool.specs.Explorations.{AreListed, AreShown, HasDifference, is_alike}
+use Rattle.scf_tool.specs.Explorations.{AreListed, HasDifference}
+use Rattle.scf_tool.specs.RegionLines.{is_alike, listed_regions}
 use Rattle.std.proofs.lemmas.Bool.{eqb-true}
 
-module _ (left right : Behavior) (scope : Scope) (limit : ℕ) (all listed : Regions)
-    (are : AreListed left right scope limit all) (differing : AreShown true all listed) where
+module _ (left right : Behavior) (scope : Scope) (limit : ℕ) (all : Regions)
+    (are : AreListed left right scope limit all) where
   -- the words that come to a leaf whose answers are alike are answered alike
   alike : (leaf : PairLeaf) (words : List ℕ) → is_alike leaf ≡ true → Tells left right leaf words
       → WordsRelated (compared_in Same scope left right) words
@@ -48,31 +49,30 @@ module _ (left right : Behavior) (scope : Scope) (limit : ℕ) (all listed : Reg
   -- a record of the scope that isn't answered alike lies in a region that is listed
   pub alike_or_listed : (call : CallRecord) → IsRecord call → IsInScope scope call
       → WordsRelated (compared_in Same scope left right) (words_of call)
-      ⊎ IsCovered left right listed.list.items (words_of call)
+      ⊎ IsCovered left right (listed_regions true all) (words_of call)
   alike_or_listed call is_record in_scope =
       by_region (are.are_regions.covered call is_record in_scope)
     where
       by_test : (covered : IsCovered left right all.list.items (words_of call)) (same : Bool)
           → is_alike covered.region.leaf ≡ same
           → WordsRelated (compared_in Same scope left right) (words_of call)
-          ⊎ IsCovered left right listed.list.items (words_of call)
+          ⊎ IsCovered left right (listed_regions true all) (words_of call)
       by_test covered true e = inl (alike covered.region.leaf (words_of call) e covered.answered)
       by_test covered false e = inr record {
         region = covered.region;
-        listed = rw differing.list
-            (contains_filtered (λ (region : Region). not (is_alike region.leaf)) all.list.items covered.region (rw e refl)
-            covered.listed);
+        listed = contains_filtered (λ (region : Region). not (is_alike region.leaf)) all.list.items covered.region
+            (rw e refl) covered.listed;
         inside = covered.inside;
         answered = covered.answered;
       }
 
       by_region : IsCovered left right all.list.items (words_of call)
           → WordsRelated (compared_in Same scope left right) (words_of call)
-          ⊎ IsCovered left right listed.list.items (words_of call)
+          ⊎ IsCovered left right (listed_regions true all) (words_of call)
       by_region covered = by_test covered (is_alike covered.region.leaf) refl
 
   -- where no region is listed, every record of the scope is answered alike
-  pub none_differ : listed.list.items ≡ [] → AllRelated (compared_in Same scope left right)
+  pub none_differ : listed_regions true all ≡ [] → AllRelated (compared_in Same scope left right)
   none_differ none call is_record in_scope = elim (alike_or_listed call is_record in_scope) [
     | inl related ↦ related
     | inr covered ↦ let listed = rw none at covered.listed in absurd (omega (arith, listed.1))
@@ -115,10 +115,10 @@ module _ (left right : Behavior) (scope : Scope) (limit : ℕ) (all listed : Reg
           ((is.exact decided.0).1 (words_of call) shown.1) decided.1 (grind (arith, other))
 
   -- each region that is listed of decided ones has a record that isn't answered alike
-  pub each_differs : All IsDecidedRegion all.list.items → All (HasDifference left right scope) listed.list.items
-  each_differs decided = rw differing.list (λ k d lt.
+  pub each_differs : All IsDecidedRegion all.list.items → All (HasDifference left right scope) (listed_regions true all)
+  each_differs decided = λ k d lt.
       let differs = λ (region : Region). not (is_alike region.leaf) in
       difference_of (get_or (filter differs all.list.items) k d)
       (All-filter differs (IsRegion left right (IsInScope scope)) all.list.items are.are_regions.each k d lt)
       (All-filter differs IsDecidedRegion all.list.items decided k d lt)
-      (filter_passes differs all.list.items k d lt))
+      (filter_passes differs all.list.items k d lt)

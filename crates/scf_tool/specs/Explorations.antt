@@ -1,5 +1,5 @@
 -- What walks over the records of a scope list: regions of records, with what filters or profiles answer to them.
-use Rattle.std.specs.Prelude.{◌≡◌, ◌==◌, ◌*◌, ◌<◌, ◌≤◌, ◌&&◌, ℕ, Bool, true, false, not, List, [], ◌∷◌, All, filter, sum_by, Option, Some, None}
+use Rattle.std.specs.Prelude.{◌≡◌, ◌*◌, ◌<◌, ◌≤◌, ◌&&◌, ℕ, Bool, true, not, List, [], ◌∷◌, All, sum_by, Option, Some, None}
 use Rattle.std.specs.List.{AllZip}
 use Rattle.std.specs.Option.{option_map_or}
 use Rattle.scf_insn.specs.Words.{words_of}
@@ -13,7 +13,6 @@ use Rattle.scf_facts.specs.WordSets.{AllowsWords}
 use Rattle.scf_compare.specs.Findings.{IsTrueFinding, compared_in}
 use Rattle.scf_compare.specs.Regions.{AreRegions, IsDecidedRegion}
 use Rattle.scf_compare.specs.Sides.{Behavior, behavior_of, profiles_behavior}
-use Rattle.scf_compare.specs.declared.comparison.PairLeaf.{PairLeaf}
 use Rattle.scf_compare.specs.declared.finding.Finding.TheVariants.{Fails}
 use Rattle.scf_compare.specs.declared.region.Region.{Region}
 use Rattle.scf_compare.specs.declared.regions.Regions.{Regions}
@@ -54,17 +53,6 @@ abbrev pub Explores : List Pairing → ℕ → Option (List Regions) → Type 0
 Explores = ExploresEach (λ pairing. behavior_of pairing.left) (λ pairing. behavior_of pairing.right)
     (λ pairing. pairing.over)
 
--- both answers of a leaf are known, and the same
-abbrev pub is_alike : PairLeaf → Bool
-is_alike leaf =
-    option_map_or (λ (left : Answer). option_map_or (λ (right : Answer). left.0 == right.0) leaf.right.answer false)
-    leaf.left.answer false
-
--- The regions that are listed: all, or those that aren't known to be answered alike.
-pub record AreShown (has_differences : Bool) (all shown : Regions) : Type 0 where
-  pub list : shown.list.items ≡ filter (λ region. not (has_differences && is_alike region.leaf)) all.list.items
-  pub steps : shown.steps ≡ all.steps
-
 -- A record of a region is one of the scope, and both sides answer it, but not alike.
 abbrev pub HasDifference : Behavior → Behavior → Scope → Region → Type 0
 HasDifference left right scope region = (call : CallRecord) × (first : Answer) × (second : Answer)
@@ -84,12 +72,10 @@ abbrev pub scope_walked : Scopes → Scope
 scope_walked (AtOnce scope) = scope
 scope_walked EachCall = AllRecords
 
--- regions of walks that are listed, in this format, and the exit status; or the walks are unfinished
+-- the listing of walks in this format, or that they are unfinished, and the exit status
 abbrev pub IsListing : RegionFormat → Option (List Regions) → Reply → Type 0
-IsListing format None (Compared text status) = (text.items ≡ listing_text format None) × (status ≡ Unknown)
-IsListing format (Some walks) (Compared text status) = (listed : List Regions)
-    × AllZip (AreShown format.has_both) walks listed × (text.items ≡ listing_text format (Some listed))
-    × (status ≡ Success)
+IsListing format explored (Compared text status) =
+    (text.items ≡ listing_text format explored) × (status ≡ option_map_or (λ walks. Success) explored Unknown)
 IsListing format explored reply = ⊥
 
 -- The regions of a side, which has no other beside it, or with both answers those of two that aren't known to be
@@ -98,4 +84,4 @@ abbrev pub ListsAnswers : Comparison → Bool → Bool → SidesInput → Reply 
 ListsAnswers comparison has_examples has_differences sides reply = (explored : Option (List Regions))
     × ExploresSides (sides.of_each && not has_differences) sides.left (behavior_of_input sides.right)
     (scope_walked comparison.scopes) comparison.limits.each explored
-    × IsListing (record { has_both = has_differences; has_examples = has_examples }) explored reply
+    × IsListing (record { has_differences = has_differences; has_examples = has_examples }) explored reply

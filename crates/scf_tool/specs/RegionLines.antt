@@ -1,5 +1,5 @@
 -- What the program prints of regions.
-use Rattle.std.specs.Prelude.{◌==◌, ◌&&◌, ◌-◌, ◌^◌, ℕ, Bool, true, false, List, [], ◌∷◌, ◌++◌, codes, length, min, slice_get, sum_by, Option, Some, None, if◌then◌else◌}
+use Rattle.std.specs.Prelude.{◌==◌, ◌&&◌, ◌-◌, ◌^◌, ℕ, Bool, true, false, not, List, [], ◌∷◌, ◌++◌, codes, filter, length, min, slice_get, sum_by, Option, Some, None, if◌then◌else◌}
 use Rattle.std.specs.List.{flat_map, join_by, range_with_len}
 use Rattle.std.specs.Fmt.{decimal}
 use Rattle.std.specs.Option.{option_map_or}
@@ -38,23 +38,13 @@ intervals_text intervals = if are_whole intervals then [] else join_by interval_
 abbrev pub bits_text : List ℕ → Bits → List ℕ
 bits_text sign bits = sign ++ (prefixed bits.mask ++ (codes "=" ++ prefixed bits.value))
 
--- the known bits, if there are any
-abbrev pub known_bits_text : Bits → List ℕ
-known_bits_text bits = if bits.mask == 0 then [] else bits_text (codes "&") bits
-
--- what is known of a word: its intervals, its known bits and those that are refuted
-abbrev pub set_text : NumberFacts → List ℕ
-set_text facts =
-    intervals_text facts.intervals
-    ++ (known_bits_text facts.known ++ flat_map (bits_text (codes "!")) facts.refuted)
-
--- nothing is known of a word
-abbrev pub is_free : NumberFacts → Bool
-is_free facts = are_whole facts.intervals && (facts.known.mask == 0 && length facts.refuted == 0)
-
--- a word by its index, if something is known of it
+-- a word by its index, if something is known of it: its intervals, its known bits and those that are refuted
 abbrev pub word_text : ℕ → NumberFacts → List ℕ
-word_text index facts = if is_free facts then [] else codes " w" ++ (decimal index ++ (codes " " ++ set_text facts))
+word_text index facts =
+    if are_whole facts.intervals && (facts.known.mask == 0 && length facts.refuted == 0) then []
+    else codes " w" ++ (decimal index ++ (codes " " ++ (intervals_text facts.intervals
+    ++ ((if facts.known.mask == 0 then [] else bits_text (codes "&") facts.known)
+    ++ flat_map (bits_text (codes "!")) facts.refuted))))
 
 -- what is known of so many words, from the first on
 abbrev pub words_text : ℕ → List NumberFacts → List ℕ
@@ -63,58 +53,51 @@ words_text count words =
 
 -- ---- a region
 
--- the answer of a region, if it is known
-abbrev pub region_answer_text : Option Answer → List ℕ
-region_answer_text None = codes "unknown"
-region_answer_text (Some answer) = answer_text answer.0
-
--- where it comes from: the filter and its instruction, or the reason of a profile
+-- where an answer comes from: the filter and its instruction, or the reason of a profile
 abbrev pub origin_text : Origin → List ℕ
 origin_text (Filter filter index) = insn_text filter index
 origin_text (Profile reason) = reason_words reason
 
--- a region that isn't exact is open
-abbrev pub exactness_text : Bool → List ℕ
-exactness_text true = []
-exactness_text false = codes " open"
-
--- what one side answers, and where that comes from
+-- what one side answers, if that is known, and where that comes from
 abbrev pub side_text : SideLeaf → List ℕ
-side_text leaf = region_answer_text leaf.answer ++ origin_text leaf.origin
+side_text leaf = option_map_or (λ answer. answer_text answer.0) leaf.answer (codes "unknown") ++ origin_text leaf.origin
 
 -- this of the left side, and that of the right one beside it if both are printed
 abbrev pub leaf_text : Bool → PairLeaf → List ℕ
 leaf_text false leaf = side_text leaf.left
 leaf_text true leaf = side_text leaf.left ++ (codes " beside " ++ side_text leaf.right)
 
-abbrev pub region_line : Bool → Region → List ℕ
-region_line has_both region =
-    (leaf_text has_both region.leaf ++ exactness_text region.is_exact) ++ (words_text 16 region.words ++ codes "\n")
-
--- the line of a record in a region, if examples are asked for and one is known
-abbrev pub example_text : Bool → Region → List ℕ
-example_text false region = []
-example_text true region = option_map_or call_line region.example []
-
+-- The line of a region, which is open if it isn't exact, and that of a record in it, if examples are asked for and one
+-- is known.
 abbrev pub region_text : RegionFormat → Region → List ℕ
-region_text format region = region_line format.has_both region ++ example_text format.has_examples region
+region_text format region =
+    leaf_text format.has_differences region.leaf ++ ((if region.is_exact then [] else codes " open")
+    ++ (words_text 16 region.words ++ (codes "\n"
+    ++ (if format.has_examples then option_map_or call_line region.example [] else []))))
 
 -- ---- all regions
 
-abbrev pub regions_text : RegionFormat → Regions → List ℕ
-regions_text format regions = flat_map (region_text format) regions.list.items
+-- both answers of a leaf are known, and the same
+abbrev pub is_alike : PairLeaf → Bool
+is_alike leaf =
+    option_map_or (λ (left : Answer). option_map_or (λ (right : Answer). left.0 == right.0) leaf.right.answer false)
+    leaf.left.answer false
 
--- a sum as a 64-bit number, which ends at the greatest
-abbrev pub total_of : {A : Type 0} → (A → ℕ) → List A → ℕ
-total_of count listed = min (sum_by count listed) (2 ^ 64 - 1)
+-- the regions that are listed: all, or those that aren't known to be answered alike
+abbrev pub listed_regions : Bool → Regions → List Region
+listed_regions has_differences regions =
+    filter (λ region. not (has_differences && is_alike region.leaf)) regions.list.items
 
--- how many regions walks list, and in how many steps
-abbrev pub totals_line : List Regions → List ℕ
-totals_line listed =
-    codes "regions " ++ (decimal (total_of (λ regions. length regions.list.items) listed)
-    ++ (codes " steps " ++ (decimal (total_of (λ regions. regions.steps) listed) ++ codes "\n")))
+-- a count as a 64-bit number, which ends at the greatest
+abbrev pub saturated : ℕ → ℕ
+saturated count = min count (2 ^ 64 - 1)
 
--- The regions that walks list, one after another, and their totals; or that the walks are unfinished.
+-- The listed regions of walks, one after another, how many they are, and in how many steps; or that the walks are
+-- unfinished.
 abbrev pub listing_text : RegionFormat → Option (List Regions) → List ℕ
 listing_text format None = codes "unfinished\n"
-listing_text format (Some listed) = flat_map (regions_text format) listed ++ totals_line listed
+listing_text format (Some walks) =
+    let listed = flat_map (listed_regions format.has_differences) walks in
+    flat_map (region_text format) listed
+    ++ (codes "regions " ++ (decimal (saturated (length listed))
+    ++ (codes " steps " ++ (decimal (saturated (sum_by (λ regions. regions.steps) walks)) ++ codes "\n"))))

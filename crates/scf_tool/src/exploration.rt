@@ -1,6 +1,6 @@
 //! Walks over the records of a scope: what filters or profiles answer, by regions of records.
 
-ghost use Rattle.std.specs.Prelude.{◌≡◌, ◌⊎◌, ◌&&◌, [], ℕ, All, IfOk, None, Some, not, true};
+ghost use Rattle.std.specs.Prelude.{◌≡◌, ◌⊎◌, ◌&&◌, [], ℕ, All, IfOk, not, true};
 ghost use Rattle.scf_compare.specs.Findings.{AllRelated, WordsRelated, compared_sides};
 ghost use Rattle.scf_compare.specs.Regions.{IsCovered};
 ghost use Rattle.scf_facts.specs.Masks.{AreFew};
@@ -8,10 +8,12 @@ ghost use Rattle.scf_compare.specs.Sides.{IsMaskedSide, behavior_of};
 ghost use Rattle.scf_insn.specs.Words.{IsRecord, words_of};
 ghost use Rattle.scf_insn.specs.declared.record.CallRecord.{CallRecord};
 ghost use Rattle.scf_profile.specs.Scope.{IsInScope};
-ghost use Rattle.scf_tool.specs.Explorations.{AreListed, AreShown, HasDifference, IsListing, ListsAnswers};
+ghost use Rattle.scf_tool.specs.Explorations.{AreListed, HasDifference, IsListing, ListsAnswers};
 ghost use Rattle.scf_tool.specs.Explorations as spec;
 ghost use Rattle.scf_tool.specs.internal.Plans.{AreWalked, IsProfileBeside};
+ghost use Rattle.scf_tool.specs.RegionLines.{listed_regions};
 ghost use Rattle.std.specs.List.{AllZip};
+ghost use Rattle.std.specs.Option.{option_map};
 
 use crate::architecture_scope::scope_of;
 use crate::plan::{Pairing, explore_each};
@@ -19,7 +21,7 @@ use crate::region_lines::{RegionFormat, listing_of_regions};
 use crate::reply::Reply;
 use crate::sides::{SideInput, SidesInput};
 use crate::status::Status;
-use scf_compare::{PairLeaf, Regions, Side};
+use scf_compare::{Regions, Side};
 use scf_insn::Memory;
 use scf_profile::{Profile, Relation, Scope};
 use scf_request::{Comparison, Scopes};
@@ -80,85 +82,43 @@ fn walks_of<'a>(
     }
 }
 
-/// Whether both answers of a leaf are known, and the same.
-fn is_alike(leaf: &PairLeaf) -> bool
-    ensures { result ≡ spec.is_alike leaf.now }
-{
-    match (leaf.left.answer, leaf.right.answer) {
-        (Some(left), Some(right)) => left == right,
-        _ => false,
-    }
-}
-
-/// The regions that are listed: all, or those that aren't known to be answered alike.
-fn shown(has_differences: bool, regions: Regions) -> Regions
-    ensures { AreShown has_differences regions result }
-{
-    let mut list = regions.list;
-    list.retain(|region| !(has_differences && is_alike(&region.leaf)));
-    Regions {
-        list,
-        steps: regions.steps,
-    }
-}
-
 /// The law that two sides answer each record alike that lies in no listed region: each record of the scope where none
 /// is listed.
 pub fn none_differ()
-    ensures alike { (left right : Side) (scope : Scope) (limit : ℕ) (all listed : Regions) (call : CallRecord)
-        → AreListed (behavior_of left) (behavior_of right) scope limit all → AreShown true all listed
+    ensures alike { (left right : Side) (scope : Scope) (limit : ℕ) (regions : Regions) (call : CallRecord)
+        → AreListed (behavior_of left) (behavior_of right) scope limit regions
         → IsRecord call → IsInScope scope call
         → WordsRelated (compared_sides Relation.Same scope left right) (words_of call)
-        ⊎ IsCovered (behavior_of left) (behavior_of right) listed.list.items (words_of call) }
-    ensures none { (left right : Side) (scope : Scope) (limit : ℕ) (all listed : Regions)
-        → AreListed (behavior_of left) (behavior_of right) scope limit all → AreShown true all listed
-        → listed.list.items ≡ [] → AllRelated (compared_sides Relation.Same scope left right) }
+        ⊎ IsCovered (behavior_of left) (behavior_of right) (listed_regions true regions) (words_of call) }
+    ensures none { (left right : Side) (scope : Scope) (limit : ℕ) (regions : Regions)
+        → AreListed (behavior_of left) (behavior_of right) scope limit regions
+        → listed_regions true regions ≡ [] → AllRelated (compared_sides Relation.Same scope left right) }
 {}
 
 /// The law that of sides whose masks have few bits together each listed region has a record that they don't answer
 /// alike.
 pub fn each_differs()
-    ensures { (left right : Side) (scope : Scope) (limit masks : ℕ) (all listed : Regions)
+    ensures { (left right : Side) (scope : Scope) (limit masks : ℕ) (regions : Regions)
         → AreFew masks → IsMaskedSide masks left → IsMaskedSide masks right
-        → AreListed (behavior_of left) (behavior_of right) scope limit all → AreShown true all listed
-        → All (HasDifference (behavior_of left) (behavior_of right) scope) listed.list.items }
+        → AreListed (behavior_of left) (behavior_of right) scope limit regions
+        → All (HasDifference (behavior_of left) (behavior_of right) scope) (listed_regions true regions) }
 {}
 
-/// The listed regions of each walk.
-fn all_shown(
+/// The reply of walks: the listing of their regions, or that they are unfinished.
+fn reply_of(
     alloc: Global,
-    has_differences: bool,
-    walks: Vec<Regions>,
-) -> Result<Vec<Regions>, AllocError>
-    ensures { IfOk result (λ listed. AllZip (AreShown has_differences) walks.items listed.items) }
+    format: RegionFormat,
+    explored: Option<Vec<Regions>>,
+) -> Result<Reply, Memory>
+    ensures { IfOk result (IsListing format (option_map (λ walks. walks.items) explored)) }
 {
-    let mut listed = Vec::new(alloc);
-    for walk in walks {
-        listed.push(shown(has_differences, walk))?;
-    }
-    Ok(listed)
-}
-
-/// The reply that lists the regions of walks.
-fn reply_of(alloc: Global, format: RegionFormat, walks: Vec<Regions>) -> Result<Reply, Memory>
-    ensures { IfOk result (IsListing format (Some walks.items)) }
-{
-    let listed = all_shown(alloc, format.has_both, walks)?;
-    let text = listing_of_regions(alloc, format, &listed)?.into_bytes();
+    let (text, status) = match explored {
+        Some(walks) => (listing_of_regions(alloc, format, &walks)?, Status::Success),
+        None => (String::from_str(alloc, "unfinished\n")?, Status::Unknown),
+    };
     Ok(Reply::Compared {
-        text,
-        status: Status::Success,
-    })
-}
-
-/// The reply of walks that are unfinished.
-fn unfinished(alloc: Global) -> Result<Reply, Memory>
-    ensures { IfOk result (λ reply. (format : RegionFormat) → IsListing format None reply) }
-{
-    let text = String::from_str(alloc, "unfinished\n")?.into_bytes();
-    Ok(Reply::Compared {
-        text,
-        status: Status::Unknown,
+        text: text.into_bytes(),
+        status,
     })
 }
 
@@ -188,11 +148,9 @@ pub(crate) fn list_answers(
     let of_each = is_apart(sides.of_each, has_differences);
     let pairings = walks_of(alloc, &sides.left, right, of_each, scope)?;
     let format = RegionFormat {
-        has_both: has_differences,
+        has_differences,
         has_examples,
     };
-    match explore_each(alloc, &pairings, comparison.limits.each)? {
-        Some(walks) => reply_of(alloc, format, walks),
-        None => unfinished(alloc),
-    }
+    let explored = explore_each(alloc, &pairings, comparison.limits.each)?;
+    reply_of(alloc, format, explored)
 }

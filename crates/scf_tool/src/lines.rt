@@ -12,7 +12,7 @@ use scf_profile::Reason;
 use std::fmt;
 
 /// The name of an action, if it has one.
-fn name_of(action: Action) -> Option<&'static str>
+pub(crate) fn name_of(action: Action) -> Option<&'static str>
     ensures named { IfSome result (λ name. (answer : ℕ)
         → text_by action answer ≡ name.now ++ codes " " ++ decimal (data_half answer)) }
     ensures unnamed { IfNone result ((answer : ℕ)
@@ -59,7 +59,7 @@ impl fmt::Display for AnswerText {
 
 /// An instruction of a filter, behind the answer that it gives.
 #[derive(Clone, Copy)]
-pub(crate) struct InsnText(pub usize, pub usize);
+struct InsnText(usize, usize);
 
 impl fmt::Display for InsnText {
     ghost output = { λ insn. Some (insn_text insn.0 insn.1) };

@@ -1,44 +1,76 @@
-//! Lines about regions, as values that display.
+//! The lines of regions.
 
-ghost use Rattle.std.specs.Prelude.{◌≡◌, [], Some, IfOk, length, string_bytes};
-ghost use Rattle.std.specs.List.{flat_map};
-ghost use Rattle.scf_tool.specs.RegionLines.{bits_text, interval_text, intervals_text, leaf_text, listing_text};
-ghost use Rattle.scf_tool.specs.RegionLines.{region_line, region_text, regions_text, side_text, total_of};
-ghost use Rattle.scf_tool.specs.RegionLines.{word_text, words_text};
+ghost use Rattle.std.specs.Prelude.{◌≡◌, ◌++◌, ◌&&◌, false, not, string_bytes, IfOk, OnOk, Some};
+ghost use Rattle.std.specs.Fmt.{decimal, digits};
+ghost use Rattle.scf_tool.specs.Lines.{answer_text, insn_text};
+ghost use Rattle.scf_tool.specs.RegionLines.{bits_text, interval_text, intervals_text, is_alike, leaf_text};
+ghost use Rattle.scf_tool.specs.RegionLines.{listing_text, region_text, side_text, word_text, words_text};
 ghost use Rattle.scf_tool.specs.RegionLines as spec;
+ghost use Rattle.scf_tool.specs.Reports.{prefixed};
 
-use crate::lines::{AnswerText, InsnText, ReasonText};
+use crate::lines::{AnswerText, ReasonText, name_of};
 use crate::reporting::CallLine;
 use scf_compare::{Origin, PairLeaf, Region, Regions, SideLeaf};
 use scf_facts::{Bits, Interval, Snapshot, WordSet};
+use scf_insn::{Answer, digit_byte};
 use std::alloc::{AllocError, Global};
-use std::fmt::{self, Display};
 
-/// How regions are printed.
+/// Which regions are listed, and how.
 #[derive(Clone, Copy)]
 pub(crate) struct RegionFormat {
-    /// Whether the answer of the right side is printed beside that of the left one.
-    pub has_both: bool,
+    /// Whether only those are that aren't known to be answered alike, with the answers of both sides.
+    pub has_differences: bool,
     /// Whether a record of each region is printed.
     pub has_examples: bool,
 }
 
-/// An interval by its ends, or by its only number.
-#[derive(Clone, Copy)]
-struct IntervalText(Interval);
-
-impl fmt::Display for IntervalText {
-    ghost output = { λ interval. Some (interval_text interval.0) };
-
-    fn fmt<W: fmt::Write>(&self, f: &mut fmt::Formatter<W>) -> fmt::Result {
-        let low = self.0.low;
-        let high = self.0.high;
-        if low == high {
-            write!(f, "0x{low:x}")
-        } else {
-            write!(f, "0x{low:x}-0x{high:x}")
-        }
+/// Appends decimal digits.
+#[tactic(auto, using(std::proofs::lemmas::Fmt::decimal_digit))]
+fn push_decimal(text: &mut String, number: u64) -> Result<(), AllocError>
+    ensures { OnOk result (string_bytes text.new ≡ string_bytes text.old ++ decimal number) }
+{
+    if number < 10 {
+        return text.push((b'0' + number as u8) as char);
     }
+    push_decimal(text, number / 10)?;
+    text.push((b'0' + (number % 10) as u8) as char)
+}
+
+/// Appends hexadecimal digits, in lower case and without leading zeros: two at a time, which halves the calls.
+#[tactic(auto, using(std::proofs::lemmas::Fmt::hex_one_digit))]
+fn push_digits(text: &mut String, number: u32) -> Result<(), AllocError>
+    ensures { OnOk result (string_bytes text.new ≡ string_bytes text.old ++ digits 16 false number) }
+{
+    if number < 16 {
+        return text.push(digit_byte(number) as char);
+    }
+    if number < 256 {
+        text.push(digit_byte(number / 16) as char)?;
+        return text.push(digit_byte(number % 16) as char);
+    }
+    push_digits(text, number / 256)?;
+    text.push(digit_byte(number / 16 % 16) as char)?;
+    text.push(digit_byte(number % 16) as char)
+}
+
+/// Appends `0x` and the hexadecimal digits.
+fn push_prefixed(text: &mut String, number: u32) -> Result<(), AllocError>
+    ensures { OnOk result (string_bytes text.new ≡ string_bytes text.old ++ prefixed number) }
+{
+    text.push_str("0x")?;
+    push_digits(text, number)
+}
+
+/// Appends an interval by its ends, or by its only number.
+fn push_interval(text: &mut String, interval: Interval) -> Result<(), AllocError>
+    ensures { OnOk result (string_bytes text.new ≡ string_bytes text.old ++ interval_text interval) }
+{
+    push_prefixed(text, interval.low)?;
+    if interval.low == interval.high {
+        return Ok(());
+    }
+    text.push('-')?;
+    push_prefixed(text, interval.high)
 }
 
 /// Whether intervals are the whole word.
@@ -51,194 +83,157 @@ pub fn are_whole(intervals: &[Interval]) -> bool
     }
 }
 
-/// Intervals with commas between, unless they are the whole word.
-#[derive(Clone, Copy)]
-struct IntervalsText<'a>(&'a [Interval]);
-
-impl fmt::Display for IntervalsText<'_> {
-    ghost output = { λ intervals. Some (intervals_text intervals.0.now) };
-
-    fn fmt<W: fmt::Write>(&self, f: &mut fmt::Formatter<W>) -> fmt::Result {
-        if are_whole(self.0) {
-            return Ok(());
-        }
-        if let [first, later @ ..] = self.0 {
-            IntervalText(*first).fmt(f)?;
-            for interval in later {
-                write!(f, ",{}", IntervalText(*interval))?;
-            }
-        }
-        Ok(())
-    }
-}
-
-/// A mask and a value.
-#[derive(Clone, Copy)]
-struct BitsText(Bits);
-
-impl fmt::Display for BitsText {
-    ghost output = { λ bits. Some (bits_text [] bits.0) };
-
-    fn fmt<W: fmt::Write>(&self, f: &mut fmt::Formatter<W>) -> fmt::Result {
-        let mask = self.0.mask;
-        let value = self.0.value;
-        write!(f, "0x{mask:x}=0x{value:x}")
-    }
-}
-
-/// Whether nothing is known of a word.
-fn is_free(word: &WordSet) -> bool
-    ensures { result ≡ spec.is_free word.now }
+/// Appends intervals with commas between, unless they are the whole word.
+fn push_intervals(text: &mut String, intervals: &[Interval]) -> Result<(), AllocError>
+    ensures { OnOk result (string_bytes text.new ≡ string_bytes text.old ++ intervals_text intervals.now) }
 {
-    are_whole(word.intervals()) && word.known().mask == 0 && word.refuted().is_empty()
-}
-
-/// A word by its index, if something is known of it: its intervals, its known bits and those that are refuted.
-#[derive(Clone, Copy)]
-struct WordText<'a>(u8, &'a WordSet);
-
-impl fmt::Display for WordText<'_> {
-    ghost output = { λ word. Some (word_text word.0 word.1.now) };
-
-    fn fmt<W: fmt::Write>(&self, f: &mut fmt::Formatter<W>) -> fmt::Result {
-        let index = self.0;
-        let word = self.1;
-        if is_free(word) {
-            return Ok(());
-        }
-        write!(f, " w{index} {}", IntervalsText(word.intervals()))?;
-        let known = word.known();
-        if known.mask != 0 {
-            write!(f, "&{}", BitsText(known))?;
-        }
-        for bits in word.refuted() {
-            write!(f, "!{}", BitsText(*bits))?;
-        }
-        Ok(())
+    if are_whole(intervals) {
+        return Ok(());
     }
-}
-
-/// What is known of a record's words.
-#[derive(Clone, Copy)]
-struct WordsText<'a>(&'a Snapshot);
-
-impl fmt::Display for WordsText<'_> {
-    ghost output = { λ words. Some (words_text 16 words.0.now) };
-
-    fn fmt<W: fmt::Write>(&self, f: &mut fmt::Formatter<W>) -> fmt::Result {
-        for index in 0..16u8 {
-            WordText(index, self.0.word(index)).fmt(f)?;
-        }
-        Ok(())
-    }
-}
-
-/// What a side answers, if that is known, and where the answer comes from.
-#[derive(Clone, Copy)]
-struct SideText(SideLeaf);
-
-impl fmt::Display for SideText {
-    ghost output = { λ side. Some (side_text side.0) };
-
-    fn fmt<W: fmt::Write>(&self, f: &mut fmt::Formatter<W>) -> fmt::Result {
-        match self.0.answer {
-            Some(answer) => AnswerText(answer).fmt(f)?,
-            None => f.write_str("unknown")?,
-        }
-        match self.0.origin {
-            Origin::Filter { filter, index } => InsnText(filter, index).fmt(f),
-            Origin::Profile(reason) => ReasonText(reason).fmt(f),
+    if let [first, later @ ..] = intervals {
+        push_interval(text, *first)?;
+        for interval in later {
+            text.push(',')?;
+            push_interval(text, *interval)?;
         }
     }
+    Ok(())
 }
 
-/// What the left side answers, or both sides.
-#[derive(Clone, Copy)]
-struct LeafText(bool, PairLeaf);
-
-impl fmt::Display for LeafText {
-    ghost output = { λ text. Some (leaf_text text.0 text.1) };
-
-    fn fmt<W: fmt::Write>(&self, f: &mut fmt::Formatter<W>) -> fmt::Result {
-        let left = SideText(self.1.left);
-        if self.0 {
-            write!(f, "{left} beside {}", SideText(self.1.right))
-        } else {
-            left.fmt(f)
-        }
-    }
-}
-
-/// The line of a region.
-#[derive(Clone, Copy)]
-struct RegionLine<'a>(bool, &'a Region);
-
-impl fmt::Display for RegionLine<'_> {
-    ghost output = { λ line. Some (region_line line.0 line.1.now) };
-
-    fn fmt<W: fmt::Write>(&self, f: &mut fmt::Formatter<W>) -> fmt::Result {
-        let leaf = LeafText(self.0, self.1.leaf);
-        let open = if self.1.is_exact { "" } else { " open" };
-        write!(f, "{leaf}{open}{}\n", WordsText(&self.1.words))
-    }
-}
-
-/// The line of a region, and that of a record in it, if examples are asked for and one is known.
-#[derive(Clone, Copy)]
-struct RegionLines<'a>(RegionFormat, &'a Region);
-
-impl fmt::Display for RegionLines<'_> {
-    ghost output = { λ lines. Some (region_text lines.0 lines.1.now) };
-
-    fn fmt<W: fmt::Write>(&self, f: &mut fmt::Formatter<W>) -> fmt::Result {
-        let line = RegionLine(self.0.has_both, self.1);
-        match self.1.example {
-            Some(call) if self.0.has_examples => write!(f, "{line}{}", CallLine(call)),
-            _ => line.fmt(f),
-        }
-    }
-}
-
-/// The lines of the regions of walks, one walk after another.
-#[derive(Clone, Copy)]
-struct RegionList<'a>(RegionFormat, &'a [Regions]);
-
-impl fmt::Display for RegionList<'_> {
-    ghost output = { λ list. Some (flat_map (regions_text list.0) list.1.now) };
-
-    fn fmt<W: fmt::Write>(&self, f: &mut fmt::Formatter<W>) -> fmt::Result {
-        for walk in self.1 {
-            for region in walk.list.as_slice() {
-                RegionLines(self.0, region).fmt(f)?;
-            }
-        }
-        Ok(())
-    }
-}
-
-/// How many regions walks list, and how many steps they took.
-fn totals_of(listed: &[Regions]) -> (u64, u64)
-    ensures count { result.0 ≡ total_of (λ regions. length regions.list.items) listed.now }
-    ensures steps { result.1 ≡ total_of (λ regions. regions.steps) listed.now }
+/// Appends a mask and a value behind a sign.
+fn push_bits(text: &mut String, sign: &str, bits: Bits) -> Result<(), AllocError>
+    ensures { OnOk result (string_bytes text.new ≡ string_bytes text.old ++ bits_text sign.now bits) }
 {
-    let mut count: u64 = 0;
-    let mut steps: u64 = 0;
-    for regions in listed {
-        count = count.saturating_add(regions.list.len() as u64);
-        steps = steps.saturating_add(regions.steps);
-    }
-    (count, steps)
+    text.push_str(sign)?;
+    push_prefixed(text, bits.mask)?;
+    text.push('=')?;
+    push_prefixed(text, bits.value)
 }
 
-/// The lines of the regions that walks list, of how many they are, and of how many steps the walks took.
+/// Appends a word by its index, if something is known of it: its intervals, its known bits and those that are refuted.
+fn push_word(text: &mut String, index: u8, word: &WordSet) -> Result<(), AllocError>
+    ensures { OnOk result (string_bytes text.new ≡ string_bytes text.old ++ word_text index word.now) }
+{
+    let known = word.known();
+    if are_whole(word.intervals()) && known.mask == 0 && word.refuted().is_empty() {
+        return Ok(());
+    }
+    text.push_str(" w")?;
+    push_decimal(text, u64::from(index))?;
+    text.push(' ')?;
+    push_intervals(text, word.intervals())?;
+    if known.mask != 0 {
+        push_bits(text, "&", known)?;
+    }
+    for bits in word.refuted() {
+        push_bits(text, "!", *bits)?;
+    }
+    Ok(())
+}
+
+/// Appends what is known of a record's words.
+fn push_words(text: &mut String, words: &Snapshot) -> Result<(), AllocError>
+    ensures { OnOk result (string_bytes text.new ≡ string_bytes text.old ++ words_text 16 words.now) }
+{
+    for index in 0..16u8 {
+        push_word(text, index, words.word(index))?;
+    }
+    Ok(())
+}
+
+/// Appends an answer: its action and data; for an action without a name the whole number.
+fn push_answer(text: &mut String, answer: Answer) -> Result<(), AllocError>
+    ensures { OnOk result (string_bytes text.new ≡ string_bytes text.old ++ answer_text answer.0) }
+{
+    let Some(name) = name_of(answer.action()) else {
+        return text.write(AnswerText(answer));
+    };
+    text.push_str(name)?;
+    text.push(' ')?;
+    push_decimal(text, u64::from(answer.detail()))
+}
+
+/// Appends an instruction of a filter.
+fn push_insn(text: &mut String, filter: usize, index: usize) -> Result<(), AllocError>
+    ensures { OnOk result (string_bytes text.new ≡ string_bytes text.old ++ insn_text filter index) }
+{
+    text.push_str(" at ")?;
+    push_decimal(text, filter as u64)?;
+    text.push(':')?;
+    push_decimal(text, index as u64)
+}
+
+/// Appends what a side answers, if that is known, and where the answer comes from.
+fn push_side(text: &mut String, side: SideLeaf) -> Result<(), AllocError>
+    ensures { OnOk result (string_bytes text.new ≡ string_bytes text.old ++ side_text side) }
+{
+    match side.answer {
+        Some(answer) => push_answer(text, answer)?,
+        None => text.push_str("unknown")?,
+    }
+    match side.origin {
+        Origin::Filter { filter, index } => push_insn(text, filter, index),
+        Origin::Profile(reason) => text.write(ReasonText(reason)),
+    }
+}
+
+/// Appends what the left side answers, or both sides.
+fn push_leaf(text: &mut String, has_both: bool, leaf: PairLeaf) -> Result<(), AllocError>
+    ensures { OnOk result (string_bytes text.new ≡ string_bytes text.old ++ leaf_text has_both leaf) }
+{
+    push_side(text, leaf.left)?;
+    if !has_both {
+        return Ok(());
+    }
+    text.push_str(" beside ")?;
+    push_side(text, leaf.right)
+}
+
+/// Appends the line of a region, and that of a record in it, if examples are asked for and one is known.
+fn push_region(text: &mut String, format: RegionFormat, region: &Region) -> Result<(), AllocError>
+    ensures { OnOk result (string_bytes text.new ≡ string_bytes text.old ++ region_text format region.now) }
+{
+    push_leaf(text, format.has_differences, region.leaf)?;
+    text.push_str(if region.is_exact { "" } else { " open" })?;
+    push_words(text, &region.words)?;
+    text.push('\n')?;
+    match region.example {
+        Some(call) if format.has_examples => text.write(CallLine(call)),
+        _ => Ok(()),
+    }
+}
+
+/// Whether a region with this leaf is listed: each is, or those are that aren't known to be answered alike.
+fn is_listed(has_differences: bool, leaf: &PairLeaf) -> bool
+    ensures { result ≡ not (has_differences && is_alike leaf.now) }
+{
+    match (leaf.left.answer, leaf.right.answer) {
+        (Some(left), Some(right)) if has_differences => left != right,
+        _ => true,
+    }
+}
+
+/// The lines of the listed regions of walks, of how many they are, and of how many steps the walks took.
 pub(crate) fn listing_of_regions(
     alloc: Global,
     format: RegionFormat,
-    listed: &[Regions],
+    walks: &[Regions],
 ) -> Result<String, AllocError>
-    ensures { IfOk result (λ text. string_bytes text ≡ listing_text format (Some listed.now)) }
+    ensures { IfOk result (λ text. string_bytes text ≡ listing_text format (Some walks.now)) }
 {
-    let list = RegionList(format, listed);
-    let (count, steps) = totals_of(listed);
-    format!(in alloc; "{list}regions {count} steps {steps}\n")
+    let mut text = String::new(alloc);
+    let mut count: u64 = 0;
+    let mut steps: u64 = 0;
+    for walk in walks {
+        for region in walk.list.as_slice() {
+            if !is_listed(format.has_differences, &region.leaf) {
+                continue;
+            }
+            push_region(&mut text, format, region)?;
+            count = count.saturating_add(1);
+        }
+        steps = steps.saturating_add(walk.steps);
+    }
+    write!(text, "regions {count} steps {steps}\n")?;
+    Ok(text)
 }

@@ -3,6 +3,6 @@ use Rattle.scf_tool.proofs.DifferenceLemmas.{each_differs}
 use Rattle.scf_tool.proofs.exploration.each_differs.Goals as goal
 
 pub returns : goal.returns
-returns c = λ left right scope limit masks all listed few of_left of_right are differing.
-    each_differs (behavior_of left) (behavior_of right) scope limit all listed are differing
+returns c = λ left right scope limit masks regions few of_left of_right are.
+    each_differs (behavior_of left) (behavior_of right) scope limit regions are
     (are.decided masks few of_left of_right)

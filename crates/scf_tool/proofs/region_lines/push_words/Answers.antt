@@ -1,12 +1,11 @@
 use Rattle.scf_facts.specs.WordSets.{NumberFacts}
-use Rattle.std.proofs.Common.{add-one, append-nil, rules, slice_get, suc, zero}
-use Rattle.std.proofs.Output.{has_written_append, has_written_of_eq}
+use Rattle.std.proofs.Common.{add-one, append-nil, slice_get, suc, zero}
 use Rattle.std.proofs.lemmas.Grind.{flat_map-append}
 use Rattle.std.specs.List.{range_with_len}
 use Rattle.std.specs.Option.{option_map_or}
-use Rattle.scf_tool.proofs.Common.{List, Some, [], ap, arith, flat_map, sym, ℕ, ◌++◌, ◌+◌, ◌∙◌, ◌∷◌, ◌≡◌}
+use Rattle.scf_tool.proofs.Common.{List, Some, [], ap, append_assoc, arith, flat_map, string_bytes, sym, ℕ, ◌++◌, ◌+◌, ◌∙◌, ◌∷◌, ◌≡◌}
 use Rattle.scf_tool.specs.RegionLines.{word_text, words_text}
-use Rattle.scf_tool.proofs.region_lines.WordsTextDisplay.fmt.Goals as goal
+use Rattle.scf_tool.proofs.region_lines.push_words.Goals as goal
 
 range_more : (a n j : ℕ) → a + n ≡ j → range_with_len a (suc n) ≡ range_with_len a n ++ (j ∷ [])
 range_more a zero j e = ap (λ (i : ℕ). i ∷ []) (omega (arith, e))
@@ -24,6 +23,11 @@ words_more words i word is =
     ∙ ap (λ (t : List ℕ). words_text i words ++ t) one)
 
 pub loop-index-preserved : goal.loop-index-preserved
-loop-index-preserved g c = λ plain. has_written_of_eq _ _ _ _ _
-    (words_more c.args.self.now.0.now c.loop-index.index c.word.result.now c.word.ensures.word)
-    (has_written_append _ _ _ _ _ _ (c.loop-index.invariant plain) (search rules))
+loop-index-preserved c =
+    let before = string_bytes c.args.text.now in
+    let words = c.args.words.now in
+    let index = c.loop-index.index in
+    let word = c.word.result.now in
+    c.in_ok-push_word.ensures ∙ ap (λ (t : List ℕ). t ++ word_text index word) c.loop-index.invariant
+    ∙ append_assoc before (words_text index words) (word_text index word)
+    ∙ ap (λ (t : List ℕ). before ++ t) (words_more words index word c.word.ensures.word)
