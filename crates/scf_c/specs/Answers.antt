@@ -1,6 +1,7 @@
 -- The answers of a side, by regions of records, as numbers.
 use Rattle.std.specs.Prelude.{◌≡◌, ◌==◌, ◌⊎◌, ◌++◌, ◌≤◌, ℕ, Bool, true, false, List, [], ◌∷◌, Option, Some, None}
 use Rattle.std.specs.Prelude.{flat_map, is_some, length, map, slice_get, if◌then◌else◌}
+use Rattle.std.specs.List.{range_with_len}
 use Rattle.std.specs.Option.{option_map_or}
 use Rattle.scf_insn.specs.declared.answer.Answer.{Answer}
 use Rattle.scf_facts.specs.declared.bits.Bits.{Bits}
@@ -46,16 +47,14 @@ facts_of_set index facts =
     ++ ((if facts.known.mask == 0 then [] else bits_fact 2 index facts.known ∷ [])
     ++ map (bits_fact 3 index) facts.refuted)
 
--- of the words with these indices
-abbrev pub facts_at : List NumberFacts → List ℕ → List WordFact
-facts_at words indices = flat_map (λ index. option_map_or (facts_of_set index) (slice_get words index) []) indices
+-- of so many words, from the first on
+abbrev pub facts_to : ℕ → List NumberFacts → List WordFact
+facts_to count words =
+    flat_map (λ index. option_map_or (facts_of_set index) (slice_get words index) []) (range_with_len 0 count)
 
--- the indices of a record's words
-abbrev pub word_indices : List ℕ
-word_indices = 0 ∷ 1 ∷ 2 ∷ 3 ∷ 4 ∷ 5 ∷ 6 ∷ 7 ∷ 8 ∷ 9 ∷ 10 ∷ 11 ∷ 12 ∷ 13 ∷ 14 ∷ 15 ∷ []
-
+-- of a record's words
 abbrev pub facts_of : Region → List WordFact
-facts_of region = facts_at region.words word_indices
+facts_of region = facts_to 16 region.words
 
 abbrev pub bit_of : Bool → ℕ
 bit_of true = 1

@@ -1,5 +1,6 @@
 -- How a call of the library ends: its status, its fault as the numbers of scf.h, and what it hands out.
-use Rattle.std.specs.Prelude.{◌≡◌, ◌≢◌, ◌==◌, ◌⊎◌, ◌++◌, ℕ, List, [], ◌∷◌, drop, if◌then◌else◌, length, map, take}
+use Rattle.std.specs.Prelude.{◌≡◌, ◌≢◌, ◌==◌, ◌⊎◌, ◌++◌, ℕ, List, [], ◌∷◌, MatchOption, Option, drop}
+use Rattle.std.specs.Prelude.{if◌then◌else◌, length, map, take}
 use Rattle.scf_tool.specs.Faults.{Number, Row, memory}
 use Rattle.scf_c.specs.declared.layout.Fault.{Fault}
 
@@ -63,6 +64,10 @@ pub record IsRefusal {F : Type 0} (row : F → Row) (is_reason : F → Type 0) (
   pub reason : is_reason why
   pub of_why : fault ≡ fault_of (row why)
   pub status_is : status ≡ status_of fault
+
+-- a value of this sort, or None where there is none
+abbrev pub IsOneOrNone : {A : Type 0} → (A → Type 0) → Option A → Type 0
+IsOneOrNone {A} IsAsked result = MatchOption result ((asked : A) → IsAsked asked → ⊥) IsAsked
 
 -- A call ends with OK and no fault, where what it hands out is right; or it is refused, and hands out nothing.
 pub record Ends (IsRight : Type 0) (IsRefused : ℕ → Fault → Type 0) (IsNothing : Type 0) (status : ℕ) (fault : Fault)

@@ -1,8 +1,7 @@
 //! What a side answers, by regions of records.
 
-ghost use Rattle.std.specs.Prelude.{◌≡◌, ◌++◌, ◌∷◌, ◌<◌, [], flat_map, map, IfErr, IfOk, MatchOption};
+ghost use Rattle.std.specs.Prelude.{◌≡◌, ◌++◌, ◌∷◌, [], flat_map, map, IfErr, IfOk, MatchOption};
 ghost use Rattle.std.specs.Prelude.{OnOk, is_some, option_map};
-ghost use Rattle.std.specs.List.{AllByRecursion};
 ghost use Rattle.scf_tool.specs.Faults.{verify_row};
 ghost use Rattle.scf_c.specs.Answers.{
   IsListed,
@@ -12,7 +11,7 @@ ghost use Rattle.scf_c.specs.Answers.{
   bit_of,
   bits_fact,
   entry_of_origin,
-  facts_at,
+  facts_to,
   facts_handed,
   facts_of,
   facts_of_set,
@@ -28,11 +27,11 @@ ghost use Rattle.scf_c.specs.Endings.{EndsAsked, IsHandedOut, IsNothingHandedOut
 ghost use Rattle.scf_c.specs.Questions.{IsSideAsked};
 ghost use Rattle.scf_c.specs.declared.question.Asked.{Asked};
 
-use crate::ending::{NO_FAULT, OK, WRONG_ARGUMENT, hand_out, refuse};
+use crate::ending::{OK, WRONG_ARGUMENT, hand_out, or_refuse};
 use crate::layout::{
     Call, Fault, LeftOutCounts, Listing, Question, RegionNumbers, SideInput, Table, WordFact,
 };
-use crate::profile::{NOTHING_LEFT_OUT, numbers_of_reason};
+use crate::profile::numbers_of_reason;
 use crate::question::{Asked, asked_of_side};
 use crate::records::pairings_of;
 use crate::side::{left_out_of_side, read_side};
@@ -42,9 +41,6 @@ use scf_insn::Memory;
 use scf_machine::FilterStack;
 use scf_tool::{SideInput as ReadSide, VerifyFault, are_whole, explore_each, verify_row};
 use std::alloc::{AllocError, Global};
-
-/// The indices of a record's words.
-const WORD_INDICES: [u8; 16] = [0, 1, 2, 3, 4, 5, 6, 7, 8, 9, 10, 11, 12, 13, 14, 15];
 
 /// The regions of walks as numbers.
 #[derive(Drop)]
@@ -65,7 +61,7 @@ fn bits_fact(kind: u32, index: u8, bits: Bits) -> WordFact
     }
 }
 
-/// Adds intervals of a word, unless they are the whole word.
+/// Adds intervals of a word.
 fn add_intervals(
     facts: &mut Vec<WordFact>,
     index: u8,
@@ -84,17 +80,8 @@ fn add_intervals(
     Ok(())
 }
 
-/// Adds bits that a word doesn't have.
-fn add_refuted(facts: &mut Vec<WordFact>, index: u8, refuted: &[Bits]) -> Result<(), AllocError>
-    ensures { OnOk result (facts.new.items ≡ facts.old.items ++ map (bits_fact 3 index) refuted.now) }
-{
-    for bits in refuted {
-        facts.push(bits_fact(3, index, *bits))?;
-    }
-    Ok(())
-}
-
-/// Adds what is known of a word.
+/// Adds what is known of a word: its intervals, unless they are the whole word, the bits that it has, if any, and those
+/// that it doesn't have.
 fn add_set(facts: &mut Vec<WordFact>, index: u8, word: &WordSet) -> Result<(), AllocError>
     ensures { OnOk result (facts.new.items ≡ facts.old.items ++ facts_of_set index word.now) }
 {
@@ -104,19 +91,20 @@ fn add_set(facts: &mut Vec<WordFact>, index: u8, word: &WordSet) -> Result<(), A
     if word.known().mask != 0 {
         facts.push(bits_fact(2, index, word.known()))?;
     }
-    add_refuted(facts, index, word.refuted())
+    for bits in word.refuted() {
+        facts.push(bits_fact(3, index, *bits))?;
+    }
+    Ok(())
 }
 
-/// Adds what is known of the words with these indices.
-fn add_words(facts: &mut Vec<WordFact>, words: &Snapshot, indices: &[u8]) -> Result<(), AllocError>
-    requires { AllByRecursion (λ index. index < 16) indices.now }
-    ensures { OnOk result (facts.new.items ≡ facts.old.items ++ facts_at words.now indices.now) }
+/// Adds what is known of a record's words.
+fn add_words(facts: &mut Vec<WordFact>, words: &Snapshot) -> Result<(), AllocError>
+    ensures { OnOk result (facts.new.items ≡ facts.old.items ++ facts_to 16 words.now) }
 {
-    let Some((index, later)) = indices.split_first() else {
-        return Ok(());
-    };
-    add_set(facts, *index, words.word(*index))?;
-    add_words(facts, words, later)
+    for index in 0..16 {
+        add_set(facts, index, words.word(index))?;
+    }
+    Ok(())
 }
 
 /// A region with so many facts.
@@ -141,7 +129,9 @@ fn numbers_of_region(region: &Region, fact_count: usize) -> RegionNumbers
         filter: filter as u64,
         index: index as u64,
         fact_count: fact_count as u64,
-        example: region.example.map_or(Call::NONE, |call| Call::of(&call)),
+        example: region
+            .example
+            .map_or(Call::default(), |call| Call::of(&call)),
         reserved: [0; 4],
     }
 }
@@ -156,24 +146,9 @@ fn add_region(
     ensures facts { OnOk result (facts.new.items ≡ facts.old.items ++ facts_of region.now) }
 {
     let before = facts.len();
-    add_words(facts, &region.words, &WORD_INDICES)?;
+    add_words(facts, &region.words)?;
     let count = facts.len() - before;
     regions.push(numbers_of_region(region, count))?;
-    Ok(())
-}
-
-/// Adds the regions of a walk.
-fn add_regions(
-    regions: &mut Vec<RegionNumbers>,
-    facts: &mut Vec<WordFact>,
-    list: &[Region],
-) -> Result<(), AllocError>
-    ensures regions { OnOk result (regions.new.items ≡ regions.old.items ++ map numbers_of_region list.now) }
-    ensures facts { OnOk result (facts.new.items ≡ facts.old.items ++ flat_map facts_of list.now) }
-{
-    for region in list {
-        add_region(regions, facts, region)?;
-    }
     Ok(())
 }
 
@@ -192,7 +167,9 @@ fn listed_of(
     let mut regions = Vec::new(alloc);
     let mut facts = Vec::new(alloc);
     for walk in walks {
-        add_regions(&mut regions, &mut facts, &walk.list)?;
+        for region in &walk.list {
+            add_region(&mut regions, &mut facts, region)?;
+        }
     }
     Ok(Listed {
         listing: Listing {
@@ -230,13 +207,6 @@ fn list_answers(
     }
 }
 
-/// The listing where nothing is listed: its numbers are 0.
-const NO_LISTING: Listing = Listing {
-    is_finished: 0,
-    unused: 0,
-    left_out: NOTHING_LEFT_OUT,
-};
-
 /// Hands out what a side answers to each record that is asked for, by regions, and what is known of their words.
 #[unsafe(no_mangle)]
 pub extern "C" fn scf_answers(
@@ -261,21 +231,19 @@ pub extern "C" fn scf_answers(
         ((listing.new ≡ no_listing) × IsNothingHandedOut regions.old regions.new regions_needed.new
         × IsNothingHandedOut facts.old facts.new facts_needed.new) result fault.new }
 {
-    *listing = NO_LISTING;
+    *listing = Listing::default();
     *regions_needed = 0;
     *facts_needed = 0;
-    *fault = NO_FAULT;
+    *fault = Fault::default();
     let Some(asked) = asked_of_side(question, side, tables) else {
         return WRONG_ARGUMENT;
     };
-    match list_answers(alloc, side, tables, question, asked) {
-        Ok(Some(listed)) => {
-            *listing = listed.listing;
-            hand_out(listed.regions.as_slice(), regions, regions_needed);
-            hand_out(listed.facts.as_slice(), facts, facts_needed);
-            OK
-        }
-        Ok(None) => WRONG_ARGUMENT,
-        Err(why) => refuse(verify_row(why), fault),
-    }
+    let listed = list_answers(alloc, side, tables, question, asked);
+    let Some(listed) = or_refuse!(listed, verify_row, fault) else {
+        return WRONG_ARGUMENT;
+    };
+    *listing = listed.listing;
+    hand_out(&listed.regions, regions, regions_needed);
+    hand_out(&listed.facts, facts, facts_needed);
+    OK
 }

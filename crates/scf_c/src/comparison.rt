@@ -18,11 +18,10 @@ ghost use Rattle.scf_c.specs.Questions.{IsAsked};
 ghost use Rattle.scf_c.specs.declared.comparison.Compared.{Compared};
 ghost use Rattle.scf_c.specs.declared.question.Asked.{Asked};
 
-use crate::ending::{NO_FAULT, OK, WRONG_ARGUMENT, hand_out, refuse};
+use crate::ending::{OK, WRONG_ARGUMENT, hand_out, or_refuse};
 use crate::layout::{
     Call, Comparison, Fault, FindingNumbers, Question, RecordsComparison, SideInput, Table,
 };
-use crate::profile::NOTHING_LEFT_OUT;
 use crate::question::{Asked, Over, asked_of};
 use crate::records::pairings_of;
 use crate::side::{fault_of_right, left_out_of_side, read_side};
@@ -31,8 +30,8 @@ use scf_compare::{Finding, Limit};
 use scf_insn::Memory;
 use scf_profile::Scope;
 use scf_tool::{
-    ComparisonOutcome, Findings, Pairing, SideFault, SideInput as ReadSide, compare_each,
-    joint_finding, report_by, side_row,
+    ComparisonOutcome, Findings, Pairing, SideFault, compare_each, joint_finding, report_by,
+    side_row,
 };
 use std::alloc::Global;
 
@@ -44,42 +43,27 @@ struct Compared {
     pub text: Vec<u8>,
 }
 
-/// The finding where nothing is compared: its numbers are 0.
-const NO_FINDING: FindingNumbers = FindingNumbers {
-    verdict: 0,
-    left: 0,
-    right: 0,
-    side: 0,
-    at: 0,
-    call: Call::NONE,
-};
-
 /// A finding as numbers.
 fn numbers_of(finding: &Finding) -> FindingNumbers
     ensures { result ≡ numbers_of finding.now }
 {
+    let none = FindingNumbers::default();
     match finding {
-        Finding::Holds { .. } => FindingNumbers {
-            verdict: 1,
-            ..NO_FINDING
-        },
+        Finding::Holds { .. } => FindingNumbers { verdict: 1, ..none },
         Finding::Fails { call, left, right } => FindingNumbers {
             verdict: 2,
             left: left.0,
             right: right.0,
             call: Call::of(call),
-            ..NO_FINDING
+            ..none
         },
         Finding::Undecided { side, at } => FindingNumbers {
             verdict: 3,
             side: *side as u32 + 1,
             at: *at as u64,
-            ..NO_FINDING
+            ..none
         },
-        Finding::Unfinished => FindingNumbers {
-            verdict: 4,
-            ..NO_FINDING
-        },
+        Finding::Unfinished => FindingNumbers { verdict: 4, ..none },
     }
 }
 
@@ -88,21 +72,21 @@ fn numbers_of(finding: &Finding) -> FindingNumbers
 fn of_scope(over: Over, scope: Scope, finding: &Finding) -> RecordsComparison
     ensures { result ≡ of_scope over scope finding.now }
 {
-    let (architecture, nr) = match (over, scope) {
-        (
-            Over::EachCall,
-            Scope::Numbers {
-                architecture,
-                first,
-                ..
-            },
-        ) => { (architecture_number(architecture), first) }
-        (_, Scope::Numbers { architecture, .. }) => (architecture_number(architecture), 0),
+    let (architecture, first) = match scope {
+        Scope::Numbers {
+            architecture,
+            first,
+            ..
+        } => (architecture_number(architecture), first),
         _ => (0, 0),
     };
     RecordsComparison {
         architecture,
-        nr,
+        nr: if matches!(over, Over::EachCall) {
+            first
+        } else {
+            0
+        },
         finding: numbers_of(finding),
         reserved: [0; 4],
     }
@@ -125,17 +109,6 @@ fn each_of(
     )
 }
 
-/// The finding on all as numbers, and what was left out of the sides.
-fn comparison_of(finding: &Finding, left: &ReadSide, right: &ReadSide) -> Comparison
-    ensures { result ≡ comparison_of finding.now left.now right.now }
-{
-    Comparison {
-        finding: numbers_of(finding),
-        left_out_of_left: left_out_of_side(left),
-        left_out_of_right: left_out_of_side(right),
-    }
-}
-
 /// Compares two sides as is asked, if there is a record.
 fn compare_inputs(
     alloc: Global,
@@ -155,23 +128,23 @@ fn compare_inputs(
         Ok(side) => side,
         Err(why) => return Err(fault_of_right(asked.left, asked.right, why)),
     };
-    let (each, finding) = {
-        let pairings = pairings_of(alloc, asked.over, &left_side, &right_side, tables)?;
-        if pairings.is_empty() {
-            return Ok(None);
-        }
-        let limit = Limit::of_steps(question.limit);
-        let shared = Some(question.total_limit);
-        let findings = compare_each(alloc, &pairings, asked.relation, limit, shared)?;
-        let each = each_of(alloc, asked.over, &pairings, &findings)?;
-        (each, joint_finding(&findings))
+    let pairings = pairings_of(alloc, asked.over, &left_side, &right_side, tables)?;
+    if pairings.is_empty() {
+        return Ok(None);
+    }
+    let limit = Limit::of_steps(question.limit);
+    let shared = Some(question.total_limit);
+    let findings = compare_each(alloc, &pairings, asked.relation, limit, shared)?;
+    let each = each_of(alloc, asked.over, &pairings, &findings)?;
+    let joint = joint_finding(&findings);
+    let comparison = Comparison {
+        finding: numbers_of(&joint),
+        left_out_of_left: left_out_of_side(&left_side),
+        left_out_of_right: left_out_of_side(&right_side),
     };
-    let comparison = comparison_of(&finding, &left_side, &right_side);
+    drop(pairings);
     let outcome = ComparisonOutcome {
-        findings: Findings {
-            joint: finding,
-            calls: None,
-        },
+        findings: Findings { joint, calls: None },
         left_out_of_left: None,
         left_out: right_side.left_out(),
     };
@@ -182,13 +155,6 @@ fn compare_inputs(
         text,
     }))
 }
-
-/// The comparison where nothing is compared: its numbers are 0.
-const NO_COMPARISON: Comparison = Comparison {
-    finding: NO_FINDING,
-    left_out_of_left: NOTHING_LEFT_OUT,
-    left_out_of_right: NOTHING_LEFT_OUT,
-};
 
 /// Compares two sides, each filters or a profile, at once or over several sets of records, and hands out the finding on
 /// all, each finding, and what the program prints of that on all.
@@ -217,21 +183,19 @@ pub extern "C" fn scf_compare(
         ((comparison.new ≡ no_comparison) × IsNothingHandedOut each.old each.new each_needed.new
         × IsNothingHandedOut text.old text.new needed.new) result fault.new }
 {
-    *comparison = NO_COMPARISON;
+    *comparison = Comparison::default();
     *each_needed = 0;
     *needed = 0;
-    *fault = NO_FAULT;
+    *fault = Fault::default();
     let Some(asked) = asked_of(question, left, right, tables) else {
         return WRONG_ARGUMENT;
     };
-    match compare_inputs(alloc, left, right, tables, question, asked) {
-        Ok(Some(compared)) => {
-            *comparison = compared.comparison;
-            hand_out(compared.each.as_slice(), each, each_needed);
-            hand_out(compared.text.as_slice(), text, needed);
-            OK
-        }
-        Ok(None) => WRONG_ARGUMENT,
-        Err(why) => refuse(side_row(why), fault),
-    }
+    let compared = compare_inputs(alloc, left, right, tables, question, asked);
+    let Some(compared) = or_refuse!(compared, side_row, fault) else {
+        return WRONG_ARGUMENT;
+    };
+    *comparison = compared.comparison;
+    hand_out(&compared.each, each, each_needed);
+    hand_out(&compared.text, text, needed);
+    OK
 }

@@ -20,14 +20,6 @@ pub(crate) const WRONG_ARGUMENT: u32 = 2;
 /// An allocation failed.
 const NO_MEMORY: u32 = 3;
 
-/// The fault where there is none.
-pub(crate) const NO_FAULT: Fault = Fault {
-    source: 0,
-    kind: 0,
-    numbers: [0; 3],
-    reserved: [0; 4],
-};
-
 /// Tells why there is no result, by the row of the fault. The answer is the status.
 pub(crate) fn refuse(row: FaultRow, fault: &mut Fault) -> u32
     ensures of_row { fault.new ≡ fault_of (row_of row) }

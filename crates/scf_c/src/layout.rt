@@ -13,7 +13,7 @@ pub struct Bytes<'a> {
 
 /// What a filter sees of a syscall: the kernel's struct seccomp_data.
 #[repr(C)]
-#[derive(Clone, Copy)]
+#[derive(Clone, Copy, Default)]
 pub struct Call {
     pub nr: u32,
     pub arch: u32,
@@ -43,14 +43,6 @@ impl Call {
             args: call.args,
         }
     }
-
-    /// The call where there is none: its numbers are 0.
-    pub(crate) const NONE: Call = Call {
-        nr: 0,
-        arch: 0,
-        ip: 0,
-        args: [0; 6],
-    };
 }
 
 /// What a stack of filters answers, and the instruction that gives the answer.
@@ -148,7 +140,7 @@ pub struct Question {
 
 /// How much of a profile has no table.
 #[repr(C)]
-#[derive(Clone, Copy)]
+#[derive(Clone, Copy, Default)]
 pub struct LeftOutCounts {
     /// The architectures that it lists without a table, each occurrence.
     pub not_looked_at: u64,
@@ -160,7 +152,7 @@ pub struct LeftOutCounts {
 
 /// What a profile answers to a call, and why.
 #[repr(C)]
-#[derive(Clone, Copy)]
+#[derive(Clone, Copy, Default)]
 pub struct ProfileAnswer {
     pub answer: u32,
     /// 1 its default, 2 an entry, 3 another ABI, 4 the stub.
@@ -174,7 +166,7 @@ pub struct ProfileAnswer {
 
 /// What a comparison comes to.
 #[repr(C)]
-#[derive(Clone, Copy)]
+#[derive(Clone, Copy, Default)]
 pub struct FindingNumbers {
     /// 1 the relation holds, 2 it fails, 3 undecided, 4 unfinished, 0 nothing is compared.
     pub verdict: u32,
@@ -192,7 +184,7 @@ pub struct FindingNumbers {
 
 /// What comparisons come to together, and how much of the sides isn't compared.
 #[repr(C)]
-#[derive(Clone, Copy)]
+#[derive(Clone, Copy, Default)]
 pub struct Comparison {
     pub finding: FindingNumbers,
     pub left_out_of_left: LeftOutCounts,
@@ -256,7 +248,7 @@ pub struct WordFact {
 
 /// What a walk over a side comes to.
 #[repr(C)]
-#[derive(Clone, Copy)]
+#[derive(Clone, Copy, Default)]
 pub struct Listing {
     /// 1 if all regions are listed, 0 if the limit was reached: then none is.
     pub is_finished: u32,

@@ -1,17 +1,16 @@
 //! A profile by itself.
 
-ghost use Rattle.std.specs.Prelude.{◌≡◌, ◌⊎◌, ℕ, List, MatchOption, IfErr, IfOk};
+ghost use Rattle.std.specs.Prelude.{◌≡◌, ◌⊎◌, ℕ, List, IfErr, IfOk};
 ghost use Rattle.scf_profile.specs.ProfileAnswers.{ProfilesAnswer};
 ghost use Rattle.scf_profile.specs.Reasons.{IsReasonAmong};
 ghost use Rattle.scf_profile.specs.declared.loaded.LoadedProfiles.{LoadedProfiles};
-ghost use Rattle.scf_profile.specs.declared.reading.Reading.{Reading};
 ghost use Rattle.scf_profile.specs.declared.reason.Reason.{Reason};
 ghost use Rattle.scf_profile.specs.declared.table_fault.TableFault.TheVariants as tables;
 ghost use Rattle.scf_tool.specs.declared.verify_fault.VerifyFault.TheVariants as verifies;
 ghost use Rattle.scf_tool.specs.Commands.{AreStated, CantLoadEach, IsFilterOfEach};
 ghost use Rattle.scf_tool.specs.Faults.{compile_row, verify_row};
 ghost use Rattle.scf_c.specs.Architectures.{texts_of};
-ghost use Rattle.scf_c.specs.Endings.{EndsAsked, IsHandedOut, IsNothingHandedOut, IsRefusal};
+ghost use Rattle.scf_c.specs.Endings.{EndsAsked, IsHandedOut, IsNothingHandedOut, IsOneOrNone, IsRefusal};
 ghost use Rattle.scf_c.specs.Layout.{record_of};
 ghost use Rattle.scf_c.specs.Profiles.{
   IsCompilationRefused,
@@ -27,10 +26,10 @@ ghost use Rattle.scf_c.specs.Profiles.{
   reason_number,
 };
 
-use crate::ending::{NO_FAULT, OK, WRONG_ARGUMENT, hand_out, refuse};
+use crate::ending::{OK, WRONG_ARGUMENT, hand_out, or_refuse};
 use crate::layout::{Call, Fault, LeftOutCounts, ProfileAnswer, ProfileInput, Table};
 use crate::tables::{are_meant, listed_of, stubs_of, table_readers_of};
-use scf_insn::{CallRecord, Memory};
+use scf_insn::Memory;
 use scf_profile::{LoadedProfiles, Reading, Reason, TableFault};
 use scf_tool::{
     Interpretation, VerifyFault, compile_row, filter_of_each, load_with_tables, verify_row,
@@ -39,8 +38,7 @@ use std::alloc::Global;
 
 /// The reading that the numbers of a profile ask for, if each has a meaning, and there are tables, and theirs have one.
 pub(crate) fn reading_under(profile: &ProfileInput, tables: &[Table]) -> Option<Reading>
-    ensures { MatchOption result ((reading : Reading) → IsReadUnder profile.now tables.now reading → ⊥)
-        (IsReadUnder profile.now tables.now) }
+    ensures { IsOneOrNone (IsReadUnder profile.now tables.now) result }
 {
     let [first, second] = profile.reserved;
     if profile.flags > 1 || first != 0 || second != 0 || tables.is_empty() || !are_meant(tables) {
@@ -108,13 +106,6 @@ pub(crate) fn left_out_of(loaded: &LoadedProfiles) -> LeftOutCounts
     }
 }
 
-/// The counts where nothing is left out: 0.
-pub(crate) const NOTHING_LEFT_OUT: LeftOutCounts = LeftOutCounts {
-    not_looked_at: 0,
-    skipped: 0,
-    reserved: [0; 4],
-};
-
 /// The filter that answers as a profile does for each architecture that has a table.
 #[unsafe(no_mangle)]
 pub extern "C" fn scf_compile(
@@ -135,23 +126,20 @@ pub extern "C" fn scf_compile(
         (IsNothingHandedOut filter.old filter.new needed.new × (left_out.new ≡ nothing_left_out)) result fault.new }
 {
     *needed = 0;
-    *left_out = NOTHING_LEFT_OUT;
-    *fault = NO_FAULT;
+    *left_out = LeftOutCounts::default();
+    *fault = Fault::default();
     let Some(reading) = reading_under(profile, tables) else {
         return WRONG_ARGUMENT;
     };
-    let loaded = match loaded(alloc, profile, tables, reading) {
-        Ok(loaded) => loaded,
-        Err(why) => return refuse(verify_row(why), fault),
-    };
-    match filter_of_each(alloc, &loaded.profiles, &[]) {
-        Ok(bytes) => {
-            hand_out(bytes.as_slice(), filter, needed);
-            *left_out = left_out_of(&loaded);
-            OK
-        }
-        Err(why) => refuse(compile_row(why), fault),
-    }
+    let loaded = or_refuse!(loaded(alloc, profile, tables, reading), verify_row, fault);
+    let bytes = or_refuse!(
+        filter_of_each(alloc, &loaded.profiles, &[]),
+        compile_row,
+        fault
+    );
+    hand_out(&bytes, filter, needed);
+    *left_out = left_out_of(&loaded);
+    OK
 }
 
 /// A reason as a number, and the index of its entry.
@@ -163,31 +151,6 @@ pub(crate) fn numbers_of_reason(reason: Reason) -> (u32, u32)
         Reason::Entry(entry) => (2, entry),
         Reason::Foreign => (3, 0),
         Reason::Stub => (4, 0),
-    }
-}
-
-/// The answer where there is none: its numbers are 0.
-const NO_ANSWER: ProfileAnswer = ProfileAnswer {
-    answer: 0,
-    reason: 0,
-    entry: 0,
-    unused: 0,
-    left_out: NOTHING_LEFT_OUT,
-};
-
-/// What the profile of a call's architecture answers to it, and why.
-fn answer_to(loaded: &LoadedProfiles, call: &CallRecord) -> ProfileAnswer
-    ensures { (answer : ℕ) × ProfilesAnswer loaded.now.profiles call.now answer
-        × (reason : Reason) × IsReasonAmong loaded.now.profiles call.now reason
-        × (result ≡ answer_of answer reason loaded.now) }
-{
-    let (reason, entry) = numbers_of_reason(loaded.profiles.reason(call));
-    ProfileAnswer {
-        answer: loaded.profiles.answer(call).0,
-        reason,
-        entry,
-        unused: 0,
-        left_out: left_out_of(loaded),
     }
 }
 
@@ -210,16 +173,20 @@ pub extern "C" fn scf_ask(
         (λ reading. IsRefusal verify_row (IsProfileRefused profile.now tables.now reading))
         (answer.new ≡ no_answer) result fault.new }
 {
-    *answer = NO_ANSWER;
-    *fault = NO_FAULT;
+    *answer = ProfileAnswer::default();
+    *fault = Fault::default();
     let Some(reading) = reading_under(profile, tables) else {
         return WRONG_ARGUMENT;
     };
-    match loaded(alloc, profile, tables, reading) {
-        Ok(loaded) => {
-            *answer = answer_to(&loaded, &call.record());
-            OK
-        }
-        Err(why) => refuse(verify_row(why), fault),
-    }
+    let loaded = or_refuse!(loaded(alloc, profile, tables, reading), verify_row, fault);
+    let record = call.record();
+    let (reason, entry) = numbers_of_reason(loaded.profiles.reason(&record));
+    *answer = ProfileAnswer {
+        answer: loaded.profiles.answer(&record).0,
+        reason,
+        entry,
+        unused: 0,
+        left_out: left_out_of(&loaded),
+    };
+    OK
 }

@@ -1,8 +1,7 @@
 //! Questions: over which records sides are compared, and by which relation.
 
-ghost use Rattle.std.specs.Prelude.{◌≡◌, ◌≢◌, MatchOption};
-ghost use Rattle.scf_profile.specs.declared.relation.Relation.{Relation};
-ghost use Rattle.scf_profile.specs.declared.scope.Scope.{Scope};
+ghost use Rattle.std.specs.Prelude.{◌≡◌};
+ghost use Rattle.scf_c.specs.Endings.{IsOneOrNone};
 ghost use Rattle.scf_c.specs.Questions.{
   IsAsked,
   IsOver,
@@ -10,8 +9,6 @@ ghost use Rattle.scf_c.specs.Questions.{
   IsSideAsked,
   relation_number,
 };
-ghost use Rattle.scf_c.specs.declared.question.Asked.{Asked};
-ghost use Rattle.scf_c.specs.declared.question.Over.{Over};
 
 use crate::layout::{Question, SideInput, Table};
 use crate::side::{SideKind, kind_of};
@@ -41,7 +38,7 @@ pub(crate) struct Asked {
 
 /// The records of a question's architecture with a number of its range, if there is one.
 fn range_of(question: &Question) -> Option<Scope>
-    ensures { MatchOption result ((scope : Scope) → IsRange question.now scope → ⊥) (IsRange question.now) }
+    ensures { IsOneOrNone (IsRange question.now) result }
 {
     let scope = Scope::Numbers {
         architecture: architecture_of(question.architecture)?,
@@ -52,7 +49,7 @@ fn range_of(question: &Question) -> Option<Scope>
 }
 
 fn over_of(question: &Question) -> Option<Over>
-    ensures { MatchOption result ((over : Over) → IsOver question.now over → ⊥) (IsOver question.now) }
+    ensures { IsOneOrNone (IsOver question.now) result }
 {
     match question.scope {
         0 => Some(Over::AtOnce(Scope::All)),
@@ -68,8 +65,7 @@ fn over_of(question: &Question) -> Option<Over>
 
 /// The relation with this number.
 fn relation_of(number: u32) -> Option<Relation>
-    ensures { MatchOption result ((relation : Relation) → number ≢ relation_number relation)
-        (λ relation. number ≡ relation_number relation) }
+    ensures { IsOneOrNone (λ relation. number ≡ relation_number relation) result }
 {
     match number {
         0 => Some(Relation::Same),
@@ -87,8 +83,7 @@ pub(crate) fn asked_of<'a>(
     right: &SideInput<'a>,
     tables: &[Table],
 ) -> Option<Asked>
-    ensures { MatchOption result ((asked : Asked) → IsAsked question.now left.now right.now tables.now asked → ⊥)
-        (IsAsked question.now left.now right.now tables.now) }
+    ensures { IsOneOrNone (IsAsked question.now left.now right.now tables.now) result }
 {
     let [first, second] = question.reserved;
     if question.unused != 0 || first != 0 || second != 0 || !are_meant(tables) {
@@ -108,8 +103,7 @@ pub(crate) fn asked_of_side<'a>(
     side: &SideInput<'a>,
     tables: &[Table],
 ) -> Option<Asked>
-    ensures { MatchOption result ((asked : Asked) → IsSideAsked question.now side.now tables.now asked → ⊥)
-        (IsSideAsked question.now side.now tables.now) }
+    ensures { IsOneOrNone (IsSideAsked question.now side.now tables.now) result }
 {
     if question.relation != 0 {
         return None;

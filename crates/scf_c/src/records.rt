@@ -75,32 +75,7 @@ fn of_calls<'a>(
     Ok(pairings)
 }
 
-/// Two sides over each set of records that is asked for, in the order in which they are compared.
-fn pairings_over<'a>(
-    alloc: Global,
-    over: Over,
-    left: Side<'a>,
-    right: Side<'a>,
-    tables: &[Table],
-) -> Result<Vec<Pairing<'a>>, VerifyFault>
-    ensures pairings { IfOk result (λ pairings. AreOver over left.entry right.entry tables.now pairings.items) }
-    ensures refused { IfErr result (AreRecordsRefused tables.now) }
-{
-    match over {
-        Over::AtOnce(over) => {
-            let pairing = Pairing { left, right, over };
-            Ok(Vec::from_slice(alloc, &[pairing]).map_err(Memory::from)?)
-        }
-        Over::EachArchitecture => Ok(of_each(alloc, left, right, tables)?),
-        Over::EachCall => {
-            let readers = table_readers_of(alloc, tables)?;
-            let owned = read_tables(alloc, false, &readers)?;
-            Ok(of_calls(alloc, left, right, &owned)?)
-        }
-    }
-}
-
-/// Two sides that are read, over each set of records that is asked for.
+/// Two sides that are read, over each set of records that is asked for, in the order in which they are compared.
 pub(crate) fn pairings_of<'a>(
     alloc: Global,
     over: Over,
@@ -112,5 +87,17 @@ pub(crate) fn pairings_of<'a>(
     ensures refused { IfErr result (AreRecordsRefused (tables_in_scope left.now right.now tables.now)) }
 {
     let used = tables_in_scope(alloc, left, right, tables)?;
-    pairings_over(alloc, over, left.side(), right.side(), &used)
+    let (left, right) = (left.side(), right.side());
+    match over {
+        Over::AtOnce(over) => {
+            let pairing = Pairing { left, right, over };
+            Ok(Vec::from_slice(alloc, &[pairing]).map_err(Memory::from)?)
+        }
+        Over::EachArchitecture => Ok(of_each(alloc, left, right, &used)?),
+        Over::EachCall => {
+            let readers = table_readers_of(alloc, &used)?;
+            let owned = read_tables(alloc, false, &readers)?;
+            Ok(of_calls(alloc, left, right, &owned)?)
+        }
+    }
 }

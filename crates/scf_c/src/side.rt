@@ -1,11 +1,11 @@
 //! The sides of comparisons, from their bytes.
 
-ghost use Rattle.std.specs.Prelude.{◌≡◌, MatchOption, IfErr, IfOk};
+ghost use Rattle.std.specs.Prelude.{◌≡◌, IfErr, IfOk};
+ghost use Rattle.scf_c.specs.Endings.{IsOneOrNone};
 ghost use Rattle.scf_c.specs.Sides.{IsKind, IsRead, IsSideRefused, fault_of_right, left_out_of_side};
-ghost use Rattle.scf_c.specs.declared.side.SideKind.{SideKind};
 
 use crate::layout::{LeftOutCounts, SideInput, Table};
-use crate::profile::{NOTHING_LEFT_OUT, left_out_of, loaded, reading_under};
+use crate::profile::{left_out_of, loaded, reading_under};
 use crate::stack::stacked;
 use scf_profile::Reading;
 use scf_tool::{SideFault, SideInput as ReadSide, VerifyFault};
@@ -20,8 +20,7 @@ pub(crate) enum SideKind {
 
 /// The kind that the numbers of a side ask for, if each has a meaning, and the tables that a profile has to have.
 pub(crate) fn kind_of(side: &SideInput, tables: &[Table]) -> Option<SideKind>
-    ensures { MatchOption result ((kind : SideKind) → IsKind side.now tables.now kind → ⊥)
-        (IsKind side.now tables.now) }
+    ensures { IsOneOrNone (IsKind side.now tables.now) result }
 {
     if side.reserved != 0 {
         return None;
@@ -56,11 +55,9 @@ pub(crate) fn read_side(
 pub(crate) fn fault_of_right(left: SideKind, right: SideKind, why: VerifyFault) -> SideFault
     ensures { result ≡ fault_of_right left right why }
 {
-    let beside = match (left, right) {
-        (SideKind::Profile(_), SideKind::Profile(_)) | (SideKind::Filters, SideKind::Filters) => {
-            true
-        }
-        _ => false,
+    let beside = match left {
+        SideKind::Profile(_) => matches!(right, SideKind::Profile(_)),
+        SideKind::Filters => matches!(right, SideKind::Filters),
     };
     SideFault { beside, why }
 }
@@ -71,6 +68,6 @@ pub(crate) fn left_out_of_side(side: &ReadSide) -> LeftOutCounts
 {
     match side {
         ReadSide::Profiles(loaded) => left_out_of(loaded),
-        _ => NOTHING_LEFT_OUT,
+        _ => LeftOutCounts::default(),
     }
 }

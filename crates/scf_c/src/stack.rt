@@ -15,7 +15,7 @@ ghost use Rattle.scf_c.specs.Layout.{bytes_of, known_bytes, record_of};
 use crate::ending::{OK, or_refuse};
 use crate::layout::{Bytes, Call, DecisionNumbers, Fault};
 use scf_insn::Memory;
-use scf_machine::{DecidingInsn, Decision, FilterStack};
+use scf_machine::FilterStack;
 use scf_tool::{PartReader, VerifyFault, stack_of, verify_row};
 use std::alloc::Global;
 
@@ -39,23 +39,6 @@ pub(crate) fn stacked(alloc: Global, filters: &[Bytes]) -> Result<FilterStack, V
     stack_of(alloc, &mut readers)
 }
 
-/// A decision as numbers.
-fn numbers_of(decision: Decision) -> DecisionNumbers
-    ensures { result ≡ decided_by decision.answer.0 decision.by }
-{
-    let by = decision.by.unwrap_or(DecidingInsn {
-        filter: 0,
-        index: 0,
-    });
-    DecisionNumbers {
-        answer: decision.answer.0,
-        has_filter: u32::from(decision.by.is_some()),
-        filter: by.filter as u64,
-        index: by.index as u64,
-        reserved: [0; 4],
-    }
-}
-
 /// What a stack of filters answers to a call, and which instruction of which filter gives the answer. The filters are
 /// in the order of the stack, the oldest first.
 #[unsafe(no_mangle)]
@@ -75,6 +58,14 @@ pub extern "C" fn scf_decide(
     *decision = DecisionNumbers::default();
     *fault = Fault::default();
     let stack = or_refuse!(stacked(alloc, filters), verify_row, fault);
-    *decision = numbers_of(stack.decision(&call.record()));
+    let decided = stack.decision(&call.record());
+    let (filter, index) = decided.by.map_or((0, 0), |by| (by.filter, by.index));
+    *decision = DecisionNumbers {
+        answer: decided.answer.0,
+        has_filter: u32::from(decided.by.is_some()),
+        filter: filter as u64,
+        index: index as u64,
+        reserved: [0; 4],
+    };
     OK
 }

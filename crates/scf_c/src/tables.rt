@@ -112,10 +112,7 @@ fn is_among(names: &[String], architecture: Architecture) -> bool
 fn has_name(names: &[String], table: &Table) -> bool
     ensures { result ≡ spec.has_name (map string_bytes names.now) table.now }
 {
-    match architecture_of(table.architecture) {
-        Some(architecture) => is_among(names, architecture),
-        None => false,
-    }
+    architecture_of(table.architecture).is_some_and(|architecture| is_among(names, architecture))
 }
 
 /// Whether a table is that of the machine's own architecture, which a runtime adds to the names, and for which no names

@@ -1,19 +1,20 @@
 use Rattle.std.proofs.Common.{refl, rules}
+use Rattle.scf_c.proofs.EndingLemmas.{default_is_none}
 use Rattle.scf_c.proofs.comparison.scf_compare.Goals as goal
 
-pub returns-in-Ok-Some : goal.returns-in-Ok-Some
-returns-in-Ok-Some c = record {
+pub returns : goal.returns
+returns c = record {
   right = λ well. (
     c.in-Some.asked,
     c.in-Some.ensures,
     (
-      c.in-Ok-Some.compared,
-      rw c.in-Ok-Some.field-0-is at c.in-Ok-Some.ensures.compared,
+      c.in-Some-2.compared,
+      rw c.in-Some-2.is at c.in-Ok.ensures.compared,
       refl,
-      rw c.as_slice.ensures.value at c.hand_out.ensures,
-      rw c.as_slice-in-Ok-Some.ensures.value at c.hand_out-in-Ok-Some.ensures,
+      rw c.deref.ensures.value at c.hand_out.ensures,
+      rw c.deref-2.ensures.value at c.hand_out-2.ensures,
     ),
-    refl,
+    default_is_none _ (λ n is. search rules) c.default-2.result c.default-2.ensures,
   );
   wrong = search rules;
   by_fault = λ failed. absurd (failed refl);
