@@ -57,7 +57,8 @@ fn lines_of_runs(alloc: Global, stack: &FilterStack, call: &CallRecord) -> Resul
         × IsDecidedBy stack.now (words_of call.now) decision.by decision.answer.0
         × (runs : List (ℕ × List ℕ))
         × AllZip (λ filter run. IsPathOf filter (words_of call.now) run.0 run.1) stack.now runs
-        × (text.items ≡ decision_text decision.by decision.answer.0 ++ flat_map (λ run. traced_text run.0 run.1) runs)) }
+        × (text.items ≡ decision_text decision.by decision.answer.0
+        ++ flat_map (λ run. traced_text run.0 run.1) runs)) }
 {
     let mut text = format!(in alloc; "{}", DecisionLine(stack.decision(call)))?;
     add_runs(alloc, &mut text, stack.filters(), call)?;
