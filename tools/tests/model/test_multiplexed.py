@@ -7,9 +7,9 @@ import unittest
 
 from support.common import I386, TOP, Case, text_of
 from support.oci import ALLOW, ERRNO, NATIVE, X32, X86, condition, entry, profile
-from support.seccomp_library import NEEDED, Conflict, Library, answer_of
+from support.seccomp_library import NEEDED, Conflict, Library
+from support.several import Reading, word_of
 from support.stand_in import StandIn, unpacked, words_of
-import kernel_profiles
 from scftools.model import multiplexed, tables
 from scftools.model.calls import Call
 from scftools.lint import kinds
@@ -21,18 +21,13 @@ MULTIPLEXERS = {"socketcall": 102, "ipc": 117}
 SMALL = (0, 1, 2, 3, 5, 8, 16, 21, 0x80000000, 0xFFFFFFFF)
 
 
-def answer_to(resolved, call):
-    """What the entries say of an i386 call, whose arguments are low halves; those that answer as the default does are
-    none."""
-    low = [argument % (1 << 32) for argument in call.arguments]
-    named = tables.architecture_table(X86).names_of(call.number)
-    default = answer_of(resolved["defaultAction"], resolved.get("defaultErrnoRet"))
-    met = [entry_met for entry_met in resolved["syscalls"] if set(named) & set(entry_met["names"])
-           and all(kernel_profiles.holds(condition_met, low) for condition_met in entry_met.get("args", ()))]
-    answers = [answer_of(entry_met["action"], entry_met.get("errnoRet")) for entry_met in met]
-    answers_beside = set(answers) - {default}
-    assert len(answers_beside) < 2, (call, answers)
-    return answers_beside.pop() if answers_beside else default
+def reading_of(resolved):
+    """What the entries say of i386 calls; those that answer as the default does are none."""
+    default = word_of(resolved["defaultAction"], resolved.get("defaultErrnoRet"))
+    kept = [each for each in resolved["syscalls"] if word_of(each["action"], each.get("errnoRet")) != default]
+    reading = Reading({**resolved, "syscalls": kept}, [X86], {X86: dict(tables.architecture_table(X86).numbered())})
+    assert reading.fault() is None, resolved
+    return reading
 
 
 class Words(Case):
@@ -168,8 +163,9 @@ def with_rules(given):
 
 def differences(resolved, data, calls):
     """The calls that a filter answers otherwise than the entries say."""
-    machine, program = StandIn(), unpacked(data)
-    return [call for call in calls if machine.answer(program, words_of(call)) != answer_to(resolved, call)]
+    machine, program, reading = StandIn(), unpacked(data), reading_of(resolved)
+    return [call for call in calls if machine.answer(program, words_of(call)) !=
+            reading.answer(call.architecture, call.number, call.arguments)[0]]
 
 
 @NEEDED
@@ -195,10 +191,10 @@ class BesideLibseccomp(unittest.TestCase):
         every = [name for numbers in multiplexed.CALL_NUMBERS.values() for name in numbers]
         others = [name for name in table.names() if name not in (*every, *MULTIPLEXERS)]
         for name in (*every, *others):
-            if library.number_of(name) == -1:
+            if not library.knows(name):
                 continue
             given = profile(entry(name), *([] if name == "read" else [entry("read", action="SCMP_ACT_LOG")]))
-            program, allowed = unpacked(library.filter_of(given)), answer_of(ALLOW, None)
+            program, allowed = unpacked(library.filter_of(given)), word_of(ALLOW)
             multiplexed_calls = [(name, number) for name, at in MULTIPLEXERS.items() for number in range(30)
                      if machine.answer(program, words_of(Call(at, I386, arguments=(number, *[0] * 5)))) == allowed]
             self.assertEqual(multiplexed_calls,

@@ -2,12 +2,14 @@
 and what the tools say of each."""
 import collections
 import functools
+import json
 import os
 import random
 import unittest
 
 from support import judged, several
 from support.common import TOP, Case, completed, insn, jeq, jge, load, ret
+from support.oci import condition
 from support.on_parts import ran
 from support.seccomp_library import NEEDED, Conflict, Library
 from support.stand_in import StandIn, unpacked
@@ -380,3 +382,49 @@ class BesideLibseccomp(unittest.TestCase):
             self.assertEqual(out.split(b"\n")[0], b"same", (seed, profile))
             count += 1
         self.assertGreater(count, 8)
+
+
+def profile_for(name, *more):
+    """A profile for x86-64 and another architecture."""
+    entries = (("ALLOW", "read"), ("ALLOW", "exit_group"), ("ALLOW", "personality", condition(0, "EQ", 8)),
+               ("ALLOW", "clone", condition(0, "MASKED_EQ", 0x10000000)), ("LOG", "ioctl", condition(1, "NE", 21522)),
+               ("TRAP", "lseek", condition(2, "GT", 7)), *more)
+    return {"defaultAction": "SCMP_ACT_ERRNO", "architectures": [NAMED[0], name], "syscalls": [
+        {"names": [called], "action": f"SCMP_ACT_{action}", "args": args} for action, called, *args in entries]}
+
+
+@NEEDED
+class OtherMachines(Case):
+    """Filters that libseccomp makes for other machines' architectures, and those of scf, compared with their profile."""
+
+    def setUp(self):
+        super().setUp()
+        self.library = Library()
+        # (libseccomp 2.5.4 knows no loongarch64)
+        self.others = [oci for oci in JUDGED if oci not in NAMED and self.library.has_architecture(oci)]
+
+    def compared(self, profile, path, *words):
+        """What is said of libseccomp's filter of a profile beside the profile in a file."""
+        return self.run_tool("compare", *words, self.file("made.bpf", self.library.filter_of(profile)), path)
+
+    def test_they_answer_as_the_profile_says(self):
+        for profile in map(profile_for, self.others):
+            path = self.file("p.json", profile)
+            self.begins(0, "same", self.compared(profile, path))
+            self.assertEqual(self.run_tool("compare", self.filter_file(path), path)[:2], (0, "same\n"))
+
+    def test_a_changed_one_differs_on_both_architectures(self):
+        for name in self.others:
+            path = self.file("p.json", profile_for(name))
+            status, out, _ = self.compared(profile_for(name, ("ALLOW", "getpid")), path, "--json")
+            self.assertEqual((status, [(call.get("architecture"), call["names"]) for call in json.loads(out)["calls"]]),
+                             (1, [(None, ["getpid"]), (JUDGED[name].name, ["getpid"])]))
+
+    def test_multiplexed_syscalls(self):
+        """libseccomp adds rules of socketcall and ipc for them, and so does resolve-profile."""
+        for name in ("SCMP_ARCH_X86", "SCMP_ARCH_PPC64LE", "SCMP_ARCH_MIPSEL"):
+            profile = profile_for(name, ("ALLOW", "socket", condition(1, "EQ", 2)), ("ALLOW", "shmget"))
+            alone = self.file("alone.json", profile)
+            status, resolved, _ = self.run_tool("resolve-profile", "--multiplexed", alone)
+            statuses = [self.compared(profile, path)[0] for path in (alone, self.file("resolved.json", resolved))]
+            self.assertEqual((status, statuses), (0, [1, 0]), name)
