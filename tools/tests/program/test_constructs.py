@@ -1,29 +1,32 @@
 """What a filter may do with a word before it tests it: the pairs of support/constructs.py."""
+import os
 import random
 
 from support import constructs
-from support.common import ALLOW, EPERM, insn, load, ret
+from support.common import ALLOW, EPERM, insn, limited, load, ret
 from support.constructs import (
-    ADD, AND, JEQ, JGE, LD_K, LD_M, LSH, MUL, NEG, ST, SUB, TAX, WORD, X, FilterPair, ProfilePair)
+    ADD, AND, JEQ, JGE, LD_K, LD_M, LSH, MUL, NEG, ST, SUB, TAX, WORD, X)
 from support.judged import Judged, Pair, Stack
-from support.on_parts import OnProgram
 
-# Of each kind of pair: its constructs, how many pairs of each are drawn, and the seed.
-KINDS = {ProfilePair: (constructs.CONSTRUCTS, 16, 30), FilterPair: (constructs.REWRITES, 12, 60)}
+# How many pairs of each construct and rewrite are drawn.
+PAIRS = int(os.environ.get("SCF_CONSTRUCT_PAIRS", "16"))
+# How pairs are compared, how they are drawn, and of what.
+KINDS = ((("--native",), constructs.profile_pair, constructs.CONSTRUCTS),
+         (("", "", "--beside"), constructs.filter_pair, constructs.REWRITES))
 
 
-class Constructs(OnProgram):
+class Constructs(Judged):
     def test_all_are_decided(self):
         """No pair is left undecided, no verdict is wrong, and none takes more than a second or 64 megabytes."""
-        for kind, (makers, pairs, seed) in KINDS.items():
+        for how, drawn, makers in KINDS:
             for name, construct in makers.items():
                 with self.subTest(name):
-                    equal, differ, seconds, memory = constructs.measured(
-                        kind, construct, random.Random(f"{seed} {name}"), pairs)
-                    self.assertTrue(pairs // 2 <= equal[0] < pairs, equal)
-                    self.assertEqual((equal[1], differ[1]), (0, 0))
-                    self.assertLess(seconds, 1)
-                    self.assertLess(memory, 64)
+                    # (every other pair is changed)
+                    dice = random.Random(f"30 {name}")
+                    verdicts = [self.judge(drawn(dice, construct, at % 2 == 1), *how, preexec_fn=limited(1, 64 << 20))
+                                for at in range(PAIRS)]
+                    self.assertEqual(set(verdicts[::2]), {"same"})
+                    self.assertEqual(set(verdicts[1::2]) - {"same"}, {"differs"})
 
 
 class OneWord(Judged):

@@ -1,30 +1,17 @@
-"""Pairs of inputs whose filters compute before they test, and what scf says of them.
-
-    cd tools/tests && python3 -m support.constructs [--pairs N] [--seed S]
+"""Pairs of inputs whose filters compute before they test.
 
 A filter beside a profile: each pair has one to three calls, one of which the profile allows by a condition that the
 filter tests by a construct. A filter beside another: both compute the same, one by a rewrite of the other, of one word
-or two of the record, and allow or deny. In one half of the pairs both sides agree, in the other half a constant of a
-filter is changed. A second machine runs the filters on records whose words are the constants of both and their like,
-and a small reading of the condition says what the profile answers; so it is known of a pair where its sides differ. For
-each construct and rewrite it is printed how many pairs of each kind scf leaves undecided, the most time of a processor
-that a pair takes, and the most memory (some 20 MB are those of Python before it runs the program). A wrong verdict ends
-it with status 1.
+or two of the record, and allow or deny. Both sides agree, or a constant of a filter is changed. The records at which a
+second machine looks for a difference are of the constants of both sides and their like.
 """
-import argparse
 import functools
 import json
 import operator
-import os
-import random
-import subprocess
-import sys
-import tempfile
 from dataclasses import dataclass, field
 
-from .common import ALLOW, EPERM, KILL_PROCESS, PROGRAM, X32, X86_64, insn
-from .judged import LONG, MACHINE, WORD, Profile, Stack, printed_record, record_of
-from .on_parts import OnProgram
+from .common import ALLOW, EPERM, KILL_PROCESS, X32, X86_64, insn
+from .judged import LONG, MACHINE, WORD, Pair, Profile, Stack, record_of
 
 LD, LDX, TAX, TXA, NEG, ST, RET, RET_A = 0x20, 0x01, 0x07, 0x87, 0x84, 0x02, 0x06, 0x16
 # Loads of a constant, and of scratch words to A and to X.
@@ -712,191 +699,73 @@ def with_changed_constant(dice, program, first=0):
             return changed
 
 
-class Sides:
-    """Two sides of a comparison, as `judged` has them, and programs as instructions."""
-
-    def difference(self, dice):
-        """A record that is answered differently, or None."""
-        return next((record for record in self.records(dice) if self.differs_at(record)), None)
-
-    def differs_at(self, record):
-        return self.left.answer(record) != self.right.answer(record)
-
-    def is_shown(self, lines):
-        """Whether both sides answer the record that scf shows as it says, and not alike."""
-        record = printed_record(lines[1])
-        printed = [MACHINE.printed(side.answer(record)) for side in (self.left, self.right)]
-        return self.differs_at(record) and [line.partition(" ")[2] for line in lines[2:4]] == printed
-
-
-class ProfilePair(Sides):
-    """A filter as instructions, beside a profile that allows some numbers, the first by a condition on an argument with
-    this index."""
-
-    OPTION = "--native"
-
-    def __init__(self, program, numbers, condition, index):
-        self.programs, self.numbers, self.condition, self.index = [program], numbers, condition, index
-        entries = [{"names": [f"c{number}"], "action": "SCMP_ACT_ALLOW", "args": [] if at else [condition.entry(index)]}
-                   for at, number in enumerate(numbers)]
-        table = "".join(f"c{number} {number}\n" for number in numbers)
-        self.left = Stack([packed(program)])
-        self.right = Profile(json.dumps({"defaultAction": "SCMP_ACT_ERRNO", "syscalls": entries}), table)
-
-    @classmethod
-    def drawn(cls, dice, construct):
-        numbers = dice.sample(range(400), dice.randint(1, 3))
-        index = dice.randrange(6)
-        condition = construct(dice, ARGUMENTS + 8 * index)
-        code = [(LD, ARCHITECTURE), (JEQ, X86_64, "native", "kill"), "native", (LD, NUMBER), (JGE, X32, "kill", "t0"),
-                "t0"]
-        for at, number in enumerate(numbers):
-            following = f"t{at + 1}" if at + 1 < len(numbers) else "no"
-            code += [(JEQ, number, "yes" if at else "asked", following), following]
-        code = [*code[:-1], "asked", *condition.code, *ENDS, "kill", (RET, KILL_PROCESS)]
-        return cls(placed(code), numbers, condition, index)
-
-    def changed(self, dice):
-        """The pair with a constant of the filter's part behind the tests of the number changed."""
-        program = with_changed_constant(dice, self.programs[0], 4 + len(self.numbers))
-        return ProfilePair(program, self.numbers, self.condition, self.index)
-
-    def records(self, dice):
-        numbers = {number + by for number in self.numbers for by in (-1, 0, 1)} | {0, X32 - 1, X32, 1 << 31, WORD}
-        for number in sorted(numbers - {-1}):
-            for argument in (self.corners(dice) if number == self.numbers[0] else (0, LONG)):
-                arguments = [0] * 6
-                arguments[self.index] = argument
-                yield record_of(number, X86_64, 0, arguments)
-
-    def corners(self, dice):
-        """Arguments by the constants of the condition and of the filter: shifted, turned and their neighbours."""
-        value, two = self.condition.value, self.condition.two
-        program, = self.programs
-        constants = {k for code, _, _, k in program if code not in (LD, RET)} | {value & WORD, two}
-        shifts = {k for code, _, _, k in program if code in (LSH, RSH, LDX) and k < 32} | {16}
-        shifts |= {k.bit_length() - 1 for k in constants if k & (k - 1) == 0 and k}
-        shifted = {number for k in constants for by in shifts for number in (k << by & WORD, k >> by)}
-        lows = {(k + by) & WORD for k in constants | shifted for by in (-1, 0, 1)}
-        sums = {(a + sign * b) & WORD for a in constants for b in constants for sign in (-1, 1)}
-        lows |= {k ^ WORD for k in constants} | {a ^ b for a in constants for b in constants} | sums
-        lows |= {dice.getrandbits(32) for _ in range(8)} | {0, 1, WORD, 1 << 31}
-        lows |= {(two ^ (1 << bit)) & WORD for bit in range(32)}
-        high = value >> 32
-        highs = {0, 1, WORD, high, high ^ 1}
-        if two >> 32 or self.condition.op == "SCMP_CMP_MASKED_EQ" and high:
-            highs |= {two >> 32} | {two >> 32 ^ 1 << bit for bit in range(32)}
-        return [h << 32 | low for low in sorted(lows) for h in sorted(highs)]
+def profile_pair(dice, construct, is_changed):
+    """A filter beside a profile that allows one to three numbers, the first by a condition on an argument. On request a
+    constant of the filter's part behind the tests of the number is changed."""
+    numbers = dice.sample(range(400), dice.randint(1, 3))
+    index = dice.randrange(6)
+    condition = construct(dice, ARGUMENTS + 8 * index)
+    code = [(LD, ARCHITECTURE), (JEQ, X86_64, "native", "kill"), "native", (LD, NUMBER), (JGE, X32, "kill", "t0"), "t0"]
+    for at, number in enumerate(numbers):
+        following = f"t{at + 1}" if at + 1 < len(numbers) else "no"
+        code += [(JEQ, number, "yes" if at else "asked", following), following]
+    program = placed([*code[:-1], "asked", *condition.code, *ENDS, "kill", (RET, KILL_PROCESS)])
+    if is_changed:
+        program = with_changed_constant(dice, program, 4 + len(numbers))
+    entries = [{"names": [f"c{number}"], "action": "SCMP_ACT_ALLOW", "args": [] if at else [condition.entry(index)]}
+               for at, number in enumerate(numbers)]
+    profile = json.dumps({"defaultAction": "SCMP_ACT_ERRNO", "syscalls": entries})
+    arguments = corners_of_condition(dice, program, condition)
+    near = {number + by for number in numbers for by in (-1, 0, 1)} | {0, X32 - 1, X32, 1 << 31, WORD}
+    return Pair(Stack([packed(program)]), Profile(profile, "".join(f"c{number} {number}\n" for number in numbers)), [
+        record_of(number, X86_64, 0, [argument if at == index else 0 for at in range(6)])
+        for number in sorted(near - {-1}) for argument in (arguments if number == numbers[0] else (0, LONG))])
 
 
-class FilterPair(Sides):
-    """Two filters beside each other, and the indices of the words that they load."""
+def corners_of_condition(dice, program, condition):
+    """Arguments by the constants of a condition and of a filter: shifted, turned and their neighbours."""
+    value, two = condition.value, condition.two
+    constants = {k for code, _, _, k in program if code not in (LD, RET)} | {value & WORD, two}
+    shifts = {k for code, _, _, k in program if code in (LSH, RSH, LDX) and k < 32} | {16}
+    shifts |= {k.bit_length() - 1 for k in constants if k & (k - 1) == 0 and k}
+    shifted = {number for k in constants for by in shifts for number in (k << by & WORD, k >> by)}
+    lows = {(k + by) & WORD for k in constants | shifted for by in (-1, 0, 1)}
+    sums = {(a + sign * b) & WORD for a in constants for b in constants for sign in (-1, 1)}
+    lows |= {k ^ WORD for k in constants} | {a ^ b for a in constants for b in constants} | sums
+    lows |= {dice.getrandbits(32) for _ in range(8)} | {0, 1, WORD, 1 << 31}
+    lows |= {(two ^ (1 << bit)) & WORD for bit in range(32)}
+    high = value >> 32
+    highs = {0, 1, WORD, high, high ^ 1}
+    if two >> 32 or condition.op == "SCMP_CMP_MASKED_EQ" and high:
+        highs |= {two >> 32} | {two >> 32 ^ 1 << bit for bit in range(32)}
+    return [h << 32 | low for low in sorted(lows) for h in sorted(highs)]
 
-    OPTION = "--beside"
 
-    def __init__(self, programs, words):
-        self.programs, self.words = programs, words
-        self.left, self.right = Stack([packed(programs[0])]), Stack([packed(programs[1])], "beside")
-
-    @classmethod
-    def drawn(cls, dice, rewrite):
-        words = dice.sample(range(16), 2)
-        return cls([placed([*code, *ENDS]) for code in rewrite(dice, *(4 * word for word in words))], words)
-
-    def changed(self, dice):
-        """The pair with a constant of one filter changed."""
+def filter_pair(dice, rewrite, is_changed):
+    """Two filters beside each other, which test two words; on request a constant of one is changed."""
+    words = dice.sample(range(16), 2)
+    programs = [placed([*code, *ENDS]) for code in rewrite(dice, *(4 * word for word in words))]
+    if is_changed:
         side = dice.randrange(2)
-        programs = list(self.programs)
         programs[side] = with_changed_constant(dice, programs[side])
-        return FilterPair(programs, self.words)
-
-    def records(self, dice):
-        for values in self.corners(dice):
-            record = [0] * 16
-            for word, value in zip(self.words, values):
-                record[word] = value
-            yield record
-
-    def corners(self, dice, count=400):
-        """Values of the two words, by the constants of both filters and drawn."""
-        constants = {k for program in self.programs for code, _, _, k in program if code not in (LD, RET)}
-        near = {(k + by) & WORD for k in constants for by in (-1, 0, 1)} | {k ^ WORD for k in constants}
-        near |= {(a - b) & WORD for a in constants for b in constants} | {-k & WORD for k in constants}
-        near |= {a * b & WORD for a in constants for b in constants}
-        near |= {a // b for a in constants for b in constants if b}
-        near |= {pow(b, -1, 1 << 32) * a & WORD for a in constants for b in constants if b & 1}
-        near = sorted(near | {1 << bit for bit in range(32)} | {0, WORD})
-        yield from ((value, dice.choice(near)) for value in near)
-        yield from ((dice.choice(near), dice.choice(near)) for _ in range(count))
-        yield from ((dice.getrandbits(32), dice.getrandbits(32)) for _ in range(count))
+    records = []
+    for values in corners_of_words(dice, programs):
+        record = [0] * 16
+        for word, value in zip(words, values):
+            record[word] = value
+        records.append(record)
+    return Pair(Stack([packed(programs[0])]), Stack([packed(programs[1])], "beside"), records)
 
 
-class Wrong(Exception):
-    """scf said what isn't so."""
-
-
-def compared(pair):
-    """What scf prints of a pair, the seconds of a processor that it takes, and its most memory in megabytes."""
-    with tempfile.TemporaryFile() as bundle:
-        bundle.write(pair.left.parts + pair.right.parts)
-        bundle.seek(0)
-        with subprocess.Popen([PROGRAM, "compare", pair.OPTION], stdin=bundle, stdout=subprocess.PIPE) as child:
-            out = child.stdout.read().decode()
-            _, status, used = os.wait4(child.pid, 0)
-            child.returncode = os.waitstatus_to_exitcode(status)
-    return out, used.ru_utime + used.ru_stime, used.ru_maxrss / 1024
-
-
-def verdict(pair, difference, printed):
-    """The verdict that scf printed of a pair; it must not be wrong."""
-    lines = printed.split("\n")
-    word = lines[0].split()[0]
-    if word == "same" and difference:
-        raise Wrong(f"same, but {difference} is answered differently: {vars(pair)}")
-    if word == "differs" and not pair.is_shown(lines):
-        raise Wrong(f"differs, but not so at {lines[1:4]}: {vars(pair)}")
-    return word
-
-
-def measured(kind, construct, dice, pairs):
-    """Draws pairs of a class by a construct or a rewrite, every other one changed, and compares them. Of equal pairs,
-    and of those that differ, how many there are and how many scf leaves undecided; the most seconds and megabytes that
-    a pair takes."""
-    counts, most = ([0, 0], [0, 0]), (0, 0)
-    for count in range(pairs):
-        pair, is_changed = kind.drawn(dice, construct), count % 2 == 1
-        if is_changed:
-            pair = pair.changed(dice)
-        difference = pair.difference(dice)
-        if difference and not is_changed:
-            raise Wrong(f"the pair isn't what it is made for: {vars(pair)}")
-        printed, *taken = compared(pair)
-        word = verdict(pair, difference, printed)
-        of_kind = counts[bool(difference) or word == "differs"]
-        of_kind[0] += 1
-        of_kind[1] += word not in ("same", "differs")
-        most = tuple(map(max, most, taken))
-    return *counts, *most
-
-
-def main():
-    parser = argparse.ArgumentParser(description=__doc__, formatter_class=argparse.RawDescriptionHelpFormatter)
-    parser.add_argument("--pairs", type=int, default=100, help="for each construct and rewrite (100)")
-    parser.add_argument("--seed", type=int, default=1)
-    words = parser.parse_args()
-    OnProgram.setUpClass()
-    for kind, constructs in ((ProfilePair, CONSTRUCTS), (FilterPair, REWRITES)):
-        for name, construct in constructs.items():
-            try:
-                equal, differ, seconds, memory = measured(kind, construct, random.Random(f"{words.seed} {name}"),
-                                                          words.pairs)
-            except Wrong as wrong:
-                print(f"{name}: {wrong}")
-                return 1
-            print(f"{name:30} equal {equal[1]}/{equal[0]} undecided   differ {differ[1]}/{differ[0]} undecided   "
-                  f"{seconds:6.3f} s   {memory:5.1f} MB", flush=True)
-    return 0
-
-
-if __name__ == "__main__":
-    sys.exit(main())
+def corners_of_words(dice, programs, count=400):
+    """Values of two words, by the constants of both filters and drawn."""
+    constants = {k for program in programs for code, _, _, k in program if code not in (LD, RET)}
+    near = {(k + by) & WORD for k in constants for by in (-1, 0, 1)} | {k ^ WORD for k in constants}
+    near |= {(a - b) & WORD for a in constants for b in constants} | {-k & WORD for k in constants}
+    near |= {a * b & WORD for a in constants for b in constants}
+    near |= {a // b for a in constants for b in constants if b}
+    near |= {pow(b, -1, 1 << 32) * a & WORD for a in constants for b in constants if b & 1}
+    near = sorted(near | {1 << bit for bit in range(32)} | {0, WORD})
+    yield from ((value, dice.choice(near)) for value in near)
+    yield from ((dice.choice(near), dice.choice(near)) for _ in range(count))
+    yield from ((dice.getrandbits(32), dice.getrandbits(32)) for _ in range(count))

@@ -129,10 +129,11 @@ class Pair:
 
 
 class Judged(OnProgram):
-    def judge(self, pair, scope="", relation="", *words):
+    def judge(self, pair, scope="", relation="", *words, **settings):
         """The word of scf's verdict, which may be `undecided at N` or `unfinished`."""
         holds, fails, related = RELATIONS[relation]
-        out, status = ran(["compare", *scope.split(), *relation.split(), *words], pair.left.parts + pair.right.parts)
+        given = pair.left.parts + pair.right.parts
+        out, status = ran(["compare", *scope.split(), *relation.split(), *words], given, **settings)
         verdict, *lines = out.decode().splitlines()
         count = len(lines) - len(pair.right.notes)
         self.assertEqual(lines[count:], [*pair.right.notes])
