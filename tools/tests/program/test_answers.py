@@ -1,10 +1,8 @@
 """What `run`, `check`, `decide`, `dis` and `asm` answer: what each code computes and tests in how many steps, which
 filters and texts are refused, which instructions run on a call, each option of a call, stacks and bundles."""
-import struct
-
 from support.common import I386, X32, X86_64, insn
 from support.on_parts import (ALLOW_ALL, ARCH_GATE, OnProgram, a_filter, a_profile, a_table, assembled, behind_gate,
-                              bundle, each_of, ran)
+                              bundle, each_of)
 from support.stand_in import StandIn
 from support.worked import FAILS, KILLS, MADE
 
@@ -157,29 +155,6 @@ DECISIONS = (
     ((0x80000000, 0x00050001, 0x00000000), 0x80000000),
     ((0x7FFC0000, 0x7FFF0000, 0x00050001, 0x7FF00000, 0x00050002, 0x7FC00000, 0x7FFF0000), 0x00050002),
 )
-# An instruction of each of the 41 codes (code, jt, jf and k), and its line.
-CODES = (
-    (0x20, 0, 0, 60, "ld [60]"), (0x80, 0, 0, 0, "ld len"), (0x81, 0, 0, 0, "ldx len"), (0x00, 0, 0, 0, "ld #0x0"),
-    (0x01, 0, 0, 0xFFFFFFFF, "ldx #0xffffffff"), (0x60, 0, 0, 15, "ld M[15]"), (0x61, 0, 0, 0, "ldx M[0]"),
-    (0x02, 0, 0, 16, "st M[16]"), (0x03, 0, 0, 7, "stx M[7]"), (0x04, 0, 0, 10, "add #0xa"), (0x0C, 0, 0, 0, "add x"),
-    (0x14, 0, 0, 16, "sub #0x10"), (0x1C, 0, 0, 0, "sub x"), (0x24, 0, 0, 1, "mul #0x1"), (0x2C, 0, 0, 0, "mul x"),
-    (0x34, 0, 0, 0, "div #0x0"), (0x3C, 0, 0, 0, "div x"), (0x44, 0, 0, 0xABC, "or #0xabc"), (0x4C, 0, 0, 0, "or x"),
-    (0x54, 0, 0, 0x7E020000, "and #0x7e020000"), (0x5C, 0, 0, 0, "and x"), (0x64, 0, 0, 31, "lsh #0x1f"),
-    (0x6C, 0, 0, 0, "lsh x"), (0x74, 0, 0, 32, "rsh #0x20"), (0x7C, 0, 0, 0, "rsh x"),
-    (0xA4, 0, 0, 0x80000000, "xor #0x80000000"), (0xAC, 0, 0, 0, "xor x"), (0x84, 0, 0, 0, "neg"),
-    (0x05, 0, 0, 4294967295, "ja 4294967295"), (0x15, 1, 0, 0xC000003E, "jeq #0xc000003e, 1, 0"),
-    (0x1D, 0, 255, 0, "jeq x, 0, 255"), (0x25, 10, 9, 2, "jgt #0x2, 10, 9"), (0x2D, 1, 2, 0, "jgt x, 1, 2"),
-    (0x35, 0, 1, 0x40000000, "jge #0x40000000, 0, 1"), (0x3D, 3, 4, 0, "jge x, 3, 4"),
-    (0x45, 5, 6, 0xFF, "jset #0xff, 5, 6"), (0x4D, 7, 8, 0, "jset x, 7, 8"),
-    (0x06, 0, 0, 0x7FFF0000, "ret #0x7fff0000"), (0x16, 0, 0, 0, "ret a"), (0x07, 0, 0, 0, "tax"),
-    (0x87, 0, 0, 0, "txa"),
-)
-# A code that is not known, and fields that the code doesn't use.
-RAW = (
-    (0x94, 0, 0, 5, "raw 0x0094, 0, 0, 0x5"), (0xFFFF, 255, 255, 0xFFFFFFFF, "raw 0xffff, 255, 255, 0xffffffff"),
-    (0x87, 0, 0, 1, "raw 0x0087, 0, 0, 0x1"), (0x06, 1, 0, 0, "raw 0x0006, 1, 0, 0x0"),
-    (0x20, 0, 1, 4, "raw 0x0020, 0, 1, 0x4"), (0x1D, 1, 1, 1, "raw 0x001d, 1, 1, 0x1"),
-)
 # Texts, and what they spell: code, k, jt and jf.
 SPELLED = (
     (b"", ()),
@@ -326,30 +301,8 @@ class Printed(OnProgram):
             self.prints(["decide"], TWO_FILTERS[:count], text, status)
 
 
-def numbers():
-    """A fixed row of numbers of 32 bits, without an end."""
-    state = 20
-    while True:
-        state = (state * 6364136223846793005 + 1442695040888963407) % 2**64
-        yield state >> 32
-
-
-def any_insn(row):
-    """An instruction of that row: mostly of a known code, and often with fields of 0."""
-    choice = next(row)
-    code = CODES[choice % 64][0] if choice % 64 < len(CODES) else choice >> 16
-    chance, jt, jf, _ = next(row).to_bytes(4, "little")
-    jt, jf = (jt, jf) if chance % 4 == 0 else (0, 0)
-    k = next(row) if next(row) % 2 == 0 else 0
-    return struct.pack("<HBBI", code, jt, jf, k)
-
-
 class Texts(OnProgram):
-    def test_lines_of_instructions(self):
-        self.assertEqual(len({row[0] for row in CODES}), 41)
-        for code, jt, jf, k, line in CODES + RAW:
-            self.prints(["dis"], insn(code, k, jt, jf), f"{line}\n")
-            self.prints(["asm"], f"{line}\n".encode(), insn(code, k, jt, jf))
+    """Those of single instructions, and their listings, are test_largest's."""
 
     def test_texts_that_spell(self):
         for text, program in SPELLED:
@@ -367,10 +320,3 @@ class Texts(OnProgram):
         self.prints(["asm"], jump + load * 256 + last, "fault text JumpTooFar line 1\n", 1)
         self.prints(["asm"], b"ret a\n" * 4096 + b"end:", insn(0x16, 0) * 4096)
         self.prints(["asm"], b"ret a\n" * 4097 + b"end:", "fault text TooLong line 4097\n", 1)
-
-    def test_a_listing_of_4096_instructions_is_read_back(self):
-        row = numbers()
-        program = b"".join(any_insn(row) for _ in range(4096))
-        listing, status = ran(["dis"], program)
-        self.assertEqual((listing.count(b"\n"), status), (4096, 0))
-        self.prints(["asm"], listing, program)
