@@ -1,19 +1,15 @@
 """Call tables and profiles: what is refused and by which fault, which rules conflict, what a profile answers to calls,
-as its filter does, and by which entry, the calls that a table names, and how filters are compiled."""
+as its filter does, and by which entry, and the calls that a table names (test_stretches has how filters are made)."""
 import functools
 import json
-import struct
 
 from support.common import I386, X32, X86_64, part
-from support.on_parts import (ALL, ALLOW, CLONE, CLONE_TABLE, DEFAULT_ALLOW, ONE_CALL, READ_TABLE, READ_WRITE_TABLE,
-                              OnProgram, a_profile, a_table, behind_gate, bundle, each_of, ran)
-from support.worked import (FAILS, KILLS, MADE, MOST, SOCKET_RULES, SOCKET_TABLE, WHOLE_CONFIG, allowing, effort,
-                            refusing)
+from support.on_parts import (ALL, ALLOW, CLONE, CLONE_TABLE, DEFAULT_ALLOW, ONE_CALL, READ_TABLE, OnProgram,
+                              a_profile, a_table, behind_gate, bundle, each_of, ran)
+from support.worked import FAILS, KILLS, MADE, MOST, SOCKET_RULES, SOCKET_TABLE, WHOLE_CONFIG
 from scftools.ask import verdicts
 
 BIT_32, LAST = 1 << 32, X32 - 1
-# The most instructions that a conditional jump passes.
-FARTHEST = 255
 # Faults, and the texts of tables that have them.
 TABLES = {
     None: ("", "# x\n\na 5\nb 5", "read 0\r\n \twrite\t 1 \r\n", "a 0000000000000000000000001\nA 1073741823"),
@@ -207,8 +203,6 @@ LEAST = (
     ((("b", "LOG", 1, ("EQ", 4)), ("ab", "ALLOW", 1, ("EQ", 9)), ("ba", "ALLOW", 1, ("EQ", 9)),
       ("a", "ALLOW", 0, None)), None),
 )
-# Calls of a profile whose rules test an argument for 1, or for more than 7: number, first argument and answer.
-TESTED = ((0, 1, MADE), (0, 8, MADE), (0, 7, FAILS), (1, 1, MADE), (1, 8, MADE), (1, 0, FAILS), (2, 1, FAILS))
 
 
 def with_entries(entries):
@@ -244,13 +238,6 @@ def words_of(number, arch, arguments):
     return ["--arch", hex(arch), "--nr", str(number), *(f"--a{at}={value}" for at, value in enumerate(arguments))]
 
 
-def tested(equal, greater):
-    """As many rules of `write` that test an argument for a value, and as many that test it for a greater one; and one
-    of each for `read`."""
-    return refusing((["write"] * equal + ["read"], [{"index": 0, "value": 1, "op": "SCMP_CMP_EQ"}]),
-                    (["write"] * greater + ["read"], [{"index": 0, "value": 7, "op": "SCMP_CMP_GT"}]))
-
-
 class OnProfiles(OnProgram):
     def loads(self, profile, table, fault):
         """That a profile and its table are taken, or refused by this fault."""
@@ -261,18 +248,10 @@ class OnProfiles(OnProgram):
 
     def asks(self, table, profile, arch, number, arguments, text):
         """That a profile answers a call so, and why; and so does the filter that is compiled of it."""
-        self.prints(["ask", *words_of(number, arch, arguments)], bundle([a_profile(profile), a_table(table)]),
-                    f"{text}\n")
-        self.answers(compiled(profile, table), " ".join(text.split()[:2]), number, arch, arguments)
+        words, answer = words_of(number, arch, arguments), " ".join(text.split()[:2])
+        self.prints(["ask", *words], bundle([a_profile(profile), a_table(table)]), f"{text}\n")
+        self.prints(["decide", *words], part("filter", compiled(profile, table)), f"{answer}\n")
 
-    def answers(self, filter_, answer, number, arch=X86_64, arguments=(0,), most=None):
-        """That a filter answers a call so, in at most so many steps."""
-        words = words_of(number, arch, arguments)
-        out, status = ran(["run", *words], filter_)
-        actual, _, steps = out.decode().rstrip("\n").partition(" steps ")
-        self.assertEqual((actual, status), (answer, 0), words)
-        if most is not None:
-            self.assertLessEqual(int(steps), most, words)
 
 
 class Tables(OnProfiles):
@@ -307,10 +286,6 @@ class Refusals(OnProfiles):
         for count, remaining, fault in COUNTS:
             entry = '{"names":[%s],"action":"SCMP_ACT_ALLOW"}' % ",".join(['"a"'] * count)
             self.loads(with_entries(entry + remaining), "a 1", fault and f"profile {fault}")
-
-    def test_longest_text(self):
-        self.loads(" " * 4194305, "", "profile TooMany")
-        self.loads(" " * 4194304, "", "profile Json")
 
 
 class Answers(OnProfiles):
@@ -363,28 +338,6 @@ class Conflicts(OnProfiles):
         self.prints(["ask", "--nr", "7", "--a0", "4096"], given, "KILL_THREAD 0 default\n")
 
 
-class Compiled(OnProfiles):
-    def test_many_numbers(self):
-        """Where the size bound is just below the greatest size and just above it."""
-        for count in (681, 682):
-            profile, table = allowing(range(count))
-            filter_ = compiled(profile, table)
-            self.prints(["compile"], bundle([a_profile(profile), a_table(table)]), filter_)
-            for number, answer in ((0, MADE), (340, MADE), (count - 1, MADE), (count, FAILS)):
-                self.answers(filter_, answer, number)
-
-    def test_many_rules_of_a_number(self):
-        """600 of them: the size bound is 8, 4 and 2 for each."""
-        self.assertLessEqual(len(compiled(refusing((["read"] * 600, [])), READ_TABLE)), 8 * 1212)
-
-    def test_long_jumps(self):
-        """Smaller numbers pass the rules of the larger one, more than 255 instructions by a jump of one more."""
-        for count in range(47, 53):
-            filter_ = compiled(tested(count, 1), READ_WRITE_TABLE)
-            for number, first, answer in TESTED:
-                self.answers(filter_, answer, number, arguments=(first,))
-
-
 class LeftOut(OnProgram):
     """With --left-out: the lines of `compare`, and one with the length of each name, since a name may have line ends in
     it, and even look like that line."""
@@ -417,31 +370,3 @@ class LeftOut(OnProgram):
     def test_faults_stay(self):
         given = bundle([a_profile("{"), a_table(READ_TABLE)])
         self.assertEqual(ran(["compile", "--left-out"], given), ran(["compile"], given))
-
-
-class Steps(OnProfiles):
-    """8, and 2 for each binary digit of the count of the numbers, and the greatest sum of 2 and 8 for each condition
-    over the rules of a number."""
-
-    def test_each(self):
-        filter_ = compiled(SOCKET_RULES, SOCKET_TABLE)
-        for data, calls, most in (
-                (compiled(DEFAULT_ALLOW, ""), [(MADE, 0)], 8),
-                (compiled(CLONE[1], CLONE_TABLE[1]), [(MADE, 56, 0), (FAILS, 56, 0x02000000), (MADE, 56, BIT_32)], 20),
-                (compiled(*allowing(range(681))), [(MADE, 0), (MADE, 340), (MADE, 680), (FAILS, 681)], 30),
-                # rules that no call meets both
-                (filter_, [("ERRNO 22", 41, 16, 0, 9), (MADE, 41, 16, 0, 1), (FAILS, 41, 2, 0, 9)], 38)):
-            for answer, number, *arguments in calls:
-                self.answers(data, answer, number, arguments=arguments, most=most)
-        given = part("filter", filter_) + bundle([a_profile(SOCKET_RULES), a_table(SOCKET_TABLE)])
-        self.prints(["compare", "--limit", str(effort([filter_], SOCKET_RULES, SOCKET_TABLE))], given, "same\n")
-
-
-class Searches(OnProfiles):
-    def test_shared_answers(self):
-        """An answer isn't put again where one stands within a jump's reach: every second number from 1 on."""
-        for count in (1, 2, 3, 4, 5, 7, 8, 9, 100, 255, 256, 340, 681):
-            program = list(struct.iter_unpack("<HBBI", compiled(*allowing(range(1, 2 * count, 2)))))
-            for place, first in enumerate(program):
-                if first[0] == 0x06:
-                    self.assertNotIn(first, program[place + 1:place + 1 + FARTHEST], (count, place))

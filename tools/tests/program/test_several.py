@@ -395,7 +395,7 @@ def profile_for(name, *more):
 
 @NEEDED
 class OtherMachines(Case):
-    """Filters that libseccomp makes for other machines' architectures, and those of scf, compared with their profile."""
+    """Filters that libseccomp makes for other machines' architectures, and those of scf, beside their profile."""
 
     def setUp(self):
         super().setUp()

@@ -6,6 +6,8 @@ from support.common import ALLOW, EPERM, I386, KILL_PROCESS, X32, X86_64
 from support.judged import MACHINE, Judged, Pair, Profile, Stack, record_of
 from support.on_parts import a_profile, a_table, bundle, ran
 
+# The most instructions that a conditional jump passes.
+FARTHEST = 255
 LOG, ERRNO_5, ERRNO_22 = 0x7FFC0000, 0x00050005, 0x00050016
 # The last number that a rule may have; past each low half; the greatest argument.
 LAST, BIT_32, MOST = X32 - 1, 1 << 32, (1 << 64) - 1
@@ -53,7 +55,9 @@ DENSE = [
     (EPERM, [(0, 256, 1, 0, [ALLOWED])]),
     (EPERM, [(1, 255, 1, 0, [LOGGED])]),
     (EPERM, [(7, 340, 1, 0, [ALLOWED])]),
+    # where the size bound is just below the greatest size, and just above it
     (EPERM, [(0, 681, 1, 0, [ALLOWED])]),
+    (EPERM, [(0, 682, 1, 0, [ALLOWED])]),
     (EPERM, [(LAST, 1, 1, 0, [ALLOWED])]),
     (EPERM, [(LAST - 99, 100, 1, 0, [ALLOWED])]),
     (EPERM, [(LAST - 680, 681, 1, 0, [ALLOWED])]),
@@ -93,6 +97,9 @@ CONDITIONS = [
     (EPERM, [(0, 2, 8, 2, [RANGE, CLOSED_RANGE, ODD, WIDE_MASK]), (16, 2, 6, 2, [NEVER, ALWAYS, TWO_ARGUMENTS]),
              (LAST - 5, 2, 3, 2, [TWO_ARGUMENTS, ALLOWED, ODD])]),
     (ALLOW, [(0, 3, 4, 4, [NEVER, ALWAYS, SEVEN, LOGGED_SEVEN])]),
+    # many rules of a number, which a jump passes just within 255 instructions, and just beyond
+    *((EPERM, [(0, 1, 1, 0, [LOGGED_SEVEN + EIGHT]), (1, 1, 1, 0, [EIGHT * count + LOGGED_SEVEN])])
+      for count in (*range(47, 53), 600)),
 ]
 # Rules so long that a jump passes more than 255 instructions, on each side.
 LONG = [
@@ -144,9 +151,13 @@ class Stretches(Judged):
         compiled, status = ran(["compile"], bundle([a_profile(text), a_table(table)]))
         self.assertEqual(status, 0)
         pair, bound = Pair(Stack([compiled]), Profile(text, table), ()), search_bound(rules_of)
+        program, = pair.left.programs
+        # without conditions an answer isn't put again where one stands within a jump's reach
+        for place, first in enumerate(program if arguments is NO_ARGUMENTS else ()):
+            self.assertFalse(first[0] == 0x06 and first in program[place + 1:place + 1 + FARTHEST], (place, first))
         for record in self.records(stretches, arguments):
             path = []
-            self.assertEqual(MACHINE.answer(pair.left.programs[0], record, path), pair.right.answer(record), record)
+            self.assertEqual(MACHINE.answer(program, record, path), pair.right.answer(record), record)
             self.assertLessEqual(len(path), bound, record)
         self.assertEqual(self.judge(pair), "same")
 
