@@ -1,7 +1,7 @@
 """`compare --calls`: each call that a table names, compared by itself."""
 import itertools
 
-from support.common import TABLE, X32, X86_64, part, taken, text_of
+from support.common import TABLE, part, taken, text_of
 from support.on_parts import (ALL, ALLOW, NATIVE, NO_TABLE, ONE_CALL, READ_WRITE_TABLE, OnProgram, a_filter, a_profile,
                               a_table, bundle, ran)
 
@@ -112,17 +112,6 @@ STUB = a_filter("ld [4]; jeq #0xc000003e, 0, 3; ld [0]; jge #451, 0, 1; ret #0x5
 # Takes one call.
 READ = a_profile(ONE_CALL)
 KNOWN = a_table("read 0\nwrite 1\nlast 450\n")
-# Parts that are refused, and what is printed of them, call by call as at once.
-REFUSED = (
-    ([], "fault bundle Parts\n", 3),
-    ([ALL, NO_TABLE], "fault bundle Parts\n", 3),
-    ([ALLOW, ALL, ALL, NO_TABLE], "fault bundle Parts\n", 3),
-    ([ALLOW, ALL], "fault bundle Parts\n", 3),
-    ([a_filter(""), ALL, a_table(READ_WRITE_TABLE)], "fault filter Empty\n", 1),
-    ([a_table("9p 1"), a_profile("{}"), ALLOW, a_filter("ld #0")], "fault filter LastNotReturn\n", 1),
-    ([ALLOW, a_profile("{}"), a_table("read 0\n9p 1")], "fault table Name line 2\n", 1),
-    ([ALLOW, a_profile("{}"), a_table(READ_WRITE_TABLE)], "fault profile Missing\n", 1),
-)
 # Tables that name no call; and parts of which none is looked at where the table is one of these.
 WITHOUT_CALLS = tuple(map(a_table, ("", "\n", "# read 0\n", " \t\n\n  # read 0")))
 UNREAD = ([ALLOW, ALL], [a_filter(""), ALL], [ALLOW, a_profile("{}")], [a_filter(""), a_profile("")])
@@ -142,15 +131,8 @@ class Calls(OnProgram):
         output, status = ran(["compile"], bundle([READ, KNOWN]))
         self.assertEqual(status, 0)
         given = part("filter", output) + bundle([STUB, READ, KNOWN])
-        number, arch, _, ours, theirs = self.shown(["compare", "--native"], given)
-        self.assertTrue(arch == X86_64 and 451 <= number < X32, number)
-        self.assertEqual((ours, theirs), ("ERRNO 38", "ERRNO 1"))
-        self.assertEqual(self.compared("", given), (b"same\n", 0))
-
-    def test_refused_parts(self):
-        for parts, text, status in REFUSED:
-            for options in ([], ["--calls"], ["--calls", "--limit", "0"]):
-                self.prints(["compare", *options], bundle(parts), text, status)
+        self.print_each([("--native", given, "differs\ncall nr ..\nfilter ERRNO 38\nprofile ERRNO 1\n", 1),
+                         ("--calls", given, "same\n", 0)], "compare")
 
     def test_a_table_without_a_call(self):
         """Nothing is compared, so nothing is said to be the same, and what else is wrong isn't looked for."""

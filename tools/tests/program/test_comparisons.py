@@ -268,7 +268,7 @@ PRINTED = (
     ("--native", [EMPTY, ALLOWING, ALL, ALL, NO_TABLE], "fault bundle Parts\n", 3),
     ("", [NO_NAME, NO_PROFILE, UNLOADED], "fault filter LastNotReturn\n", 1),
     ("", [LOGS, LOGS, NO_PROFILE, NO_NAME], "fault table Name line 1\n", 1),
-    ("", [LOGS, LOGS, NO_PROFILE, NO_TABLE], "fault profile Missing\n", 1),
+    ("", [LOGS, LOGS, NO_PROFILE, a_table(READ_WRITE_TABLE)], "fault profile Missing\n", 1),
     ("", [CLONE_TABLE, CLONE, CLONE_BY_JSET], "same\n", 0),
     # Without a filter on either side there is no input, as of a pipe from a tool that failed.
     ("--beside", [], "fault bundle Parts\n", 3), ("--beside --native", [], "fault bundle Parts\n", 3),
@@ -381,6 +381,8 @@ EXCLUDED = {
 class Printed(Judged):
     def test_each(self):
         self.print_each(PRINTED + PROFILES_BESIDE, "compare")
+        # call by call the same is refused
+        self.print_each([row for row in PRINTED if row[0] == "" and row[3] in (1, 3)], "compare", "--calls")
         self.print_each(ARCHITECTURES, "compare", "--architectures")
         self.print_each([("", [CLONE], "fault bundle Parts\n", 3),
                          ("", [ALL, beside_profile(ONE_CALL), NO_TABLE], "fault bundle Parts\n", 3)], "compile")

@@ -38,7 +38,7 @@ class Regions(unittest.TestCase):
     """What the program prints, as the tools read it, judged by another machine and another reading of profiles."""
 
     def regions_of(self, bundle, *words):
-        """The regions, each with its record, as words; of an open one there may be none. None if they are unfinished."""
+        """The regions, each with its record's words, which an open one may lack; None if they are unfinished."""
         out, status = ran(["answers", "--examples", f"--limit={10 * STEPS}", *words], bundle)
         if status == 4:
             self.assertEqual(out, b"unfinished\n")

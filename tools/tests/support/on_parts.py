@@ -62,9 +62,6 @@ READ_TABLE, READ_WRITE_TABLE = "read 0\n", "read 0\nwrite 1\n"
 # Allow every call, the calls that the gate leaves, and every call but number 1.
 ALLOW, NATIVE = a_filter(ALLOW_ALL), behind_gate(ALLOW_ALL)
 WITHOUT_WRITE = a_filter("ld [0]; jeq #1, 0, 1; ret #0x50001; ret #0x7fff0000")
-# A difference that was printed of a comparison at once.
-DIFFERS = re.compile(r"differs\ncall nr (\d+) arch (0x[0-9a-f]{8}) ip 0x[0-9a-f]+ args (0x[0-9a-f]+)"
-                     r"(?: 0x[0-9a-f]+){5}\nfilter ([A-Z_]+ \w+)\nprofile ([A-Z_]+ \w+)\n")
 
 
 def ran(words, given=b"", **settings):
@@ -135,10 +132,3 @@ class OnProgram(unittest.TestCase):
         finally:
             os.close(waits)
             os.close(gives)
-
-    def shown(self, words, given):
-        """Of a difference: the number, the architecture and argument 0 of the call, and the two answers."""
-        out, status = ran(words, given)
-        match = DIFFERS.fullmatch(out.decode())
-        self.assertTrue(match and status == 1, (words, given, out))
-        return int(match[1]), int(match[2], 16), int(match[3], 16), match[4], match[5]
