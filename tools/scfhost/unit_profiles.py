@@ -9,7 +9,7 @@ from collections.abc import Callable, Iterator, Sequence
 
 from scftools.base import program
 from scftools.base.values import Any
-from scftools.model import architectures, libseccomp, multiplexed
+from scftools.model import architectures, libseccomp
 from scftools.model.answers import Answer
 from scftools.model.profiles import DerivedProfile
 from scftools.ask.explanation import join_names
@@ -48,7 +48,7 @@ def _of_multiplexer(settings: UnitSettings, name: str) -> Iterator[tuple[Answer,
     """The answers to i386's socketcall or ipc. Where a list doesn't name it, libseccomp adds the rules of what it is
     called for: each names that by argument 0."""
     answer = settings.answer_of(name)
-    answers = {number: settings.answer_of(call, name) for call, number in multiplexed.CALL_NUMBERS[name].items()}
+    answers = {number: settings.answer_of(call, name) for call, number in libseccomp.CALL_NUMBERS[name].items()}
     others = [number for number in answers if answers[number] != answer]
     yield from ((answers[number], conditions) for number in others
                 for conditions in unit_restrictions.among(0, [number]))
@@ -59,7 +59,7 @@ def profile_of(settings: UnitSettings, group: Sequence[str]) -> str:
     """The text of the profile that the settings describe, for architectures of one group."""
     policy = Policy(settings.answer_of(None), architectures=group)
     rules = unit_restrictions.rules_of(settings.restrictions, group[0])
-    multiplexers = [*multiplexed.CALL_NUMBERS] if architectures.I386 in group else []
+    multiplexers = [*libseccomp.CALL_NUMBERS] if architectures.I386 in group else []
     for name in dict.fromkeys([*settings.names(), *rules, *multiplexers]):
         answers = _of_multiplexer(settings, name) if name in multiplexers else _of_call(settings, name, rules.get(name))
         policy.rules += (Rule(name, answer, conditions) for answer, conditions in answers if answer != policy.default)

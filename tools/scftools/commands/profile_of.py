@@ -108,7 +108,7 @@ import json
 
 from ..base import inputs, output, program
 from ..base.values import replace
-from ..model import architectures, multiplexed, tables
+from ..model import architectures, libseccomp, tables
 from ..ask import explanation, verdicts
 from ..ask.client import Refusal
 from ..cli import words
@@ -183,7 +183,7 @@ def of_engine(data, options):
     else:
         profile, _ = engines.resolve(value, setting, say, options.keep_first)
     if options.multiplexed:
-        profile, _ = multiplexed.with_rules(profile, say)
+        profile, _ = libseccomp.with_rules(profile, say)
     return put_profile(engines.printed(profile), profile, options, remarks)
 
 

@@ -14,7 +14,7 @@ from collections.abc import Iterator, Sequence
 
 from ..base import program
 from ..base.values import Any, dataclass, replace
-from ..model import architectures, libseccomp, multiplexed, profiles, tables
+from ..model import architectures, libseccomp, profiles, tables
 from ..model.answers import MAX_ERRNO, Answer
 from ..model.architectures import JUDGED, LITTLE_ENDIAN, NATIVE, NUMBERS, PREFIX
 from ..model.profiles import FLAGS, SANDBOX, Refused
@@ -267,7 +267,7 @@ class _Application:
             table = tables.architecture_table(architecture) or tables.Table(b"")
             absent = frozenset(name for name in names.intersection(table.names())
                                if (self.number_of(name, architecture) or 0) < 0
-                               and not multiplexed.is_multiplexed(name, architecture))
+                               and not libseccomp.is_multiplexed(name, architecture))
             if absent:
                 data.absent = {**data.absent, architecture: absent}
         return data
@@ -301,7 +301,7 @@ class _Application:
         elif self.unknown:
             self.remarks.append(f"left out, since this machine's libseccomp {self.library.version} doesn't know "
                                 f"them: {excerpts(list(self.unknown))}")
-        handed, places = multiplexed.with_rules(given, most=self.most_conditions)
+        handed, places = libseccomp.with_rules(given, most=self.most_conditions)
         given_origins = [origin for entry, origin in entries if entry["names"]]
         return ProfileInput(self.read_as(handed), [given_origins[place] for place in places], self.stub_of(given),
                             origins, self.runtime, given, self.remarks, list(self.notes_on(given, given_origins)))

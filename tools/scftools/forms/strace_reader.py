@@ -10,7 +10,7 @@ from collections.abc import Iterable
 from ..base import program
 from ..base.inputs import LONGEST_LINE
 from ..base.values import Pattern, dataclass, field
-from ..model import multiplexed
+from ..model import libseccomp
 from ..model.architectures import JUDGED, NATIVE
 from ..model.tables import Table
 from .strace import (
@@ -226,7 +226,7 @@ class Reader:
     def _numbered(self, architecture: str, name: str) -> dict[str, int]:
         """The syscalls that strace prints by a name, and their numbers: what socketcall and ipc do it prints by its own
         name."""
-        multiplexers = multiplexed.CALL_NUMBERS.items() if architecture in multiplexed.MULTIPLEXING else ()
+        multiplexers = libseccomp.CALL_NUMBERS.items() if architecture in libseccomp.MULTIPLEXING else ()
         names = [name, *(multiplexer for multiplexer, its in multiplexers if name in its)]
         numbers = {syscall: self.number_of(architecture, syscall) for syscall in names}
         return {syscall: number for syscall, number in numbers.items() if number is not None}

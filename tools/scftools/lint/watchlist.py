@@ -13,9 +13,8 @@ from ..base.values import dataclass
 from ..model.answers import ENOSYS, Answer
 from ..model.architectures import NATIVE, Architecture, machine_architecture
 from ..model.argument_sets import Sets, Steps
-from ..model.dangerous_calls import Dangerous, dangerous
 from ..model.entries import MASKED, NOT_EQUAL, Condition, Entry
-from ..model.tables import Table, Tables
+from ..model.tables import Dangerous, Table, Tables, dangerous
 from ..ask.answer_sets import arguments_of
 from ..ask.regions import Numbers, Region
 from ..ask.verdicts import UNFINISHED

@@ -17,7 +17,7 @@ from collections.abc import Callable, Sequence
 from ..base import output, program
 from ..base.inputs import LONGEST_LINE
 from ..base.values import Pattern, dataclass, replace
-from ..model import architectures, multiplexed
+from ..model import architectures, libseccomp
 from ..model.architectures import JUDGED, NATIVE
 from ..model.calls import SKIPPED
 from ..model.profiles import ALLOWING, Refused
@@ -146,7 +146,7 @@ class Trace(Sink):
                 if self.looked_at(architecture, named):
                     # (strace prints it by its name, or as what it does)
                     arguments = strace.registers_in(line.text, name, architecture, bool(self._is_raw)) \
-                        if named == name[1] else {0: (multiplexed.CALL_NUMBERS[named][name[1]],)}
+                        if named == name[1] else {0: (libseccomp.CALL_NUMBERS[named][name[1]],)}
                 self.keep(line.number, architecture, named, arguments, errno=errno)
 
     def keep(self, number: int, architecture: str, name: str, arguments: strace.Arguments, count: int = 1,

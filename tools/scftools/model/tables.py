@@ -1,4 +1,5 @@
-"""Syscall tables: the names of numbers, which tables go with a profile, and what names are that no table has."""
+"""Syscall tables: the names of numbers, which tables go with a profile, and what names are that no table has; and the
+syscalls that make a sandbox useless."""
 from __future__ import annotations
 
 import functools
@@ -8,8 +9,10 @@ from ..base import inputs, program
 from ..base.values import Pattern, dataclass, field, replace
 from . import architectures, profiles
 from .architectures import JUDGED, NATIVE, Architecture
+from .entries import MASKED, Condition
 
 TABLE_LINE = Pattern(rb"(?m)^[ \t]*([A-Za-z_][A-Za-z0-9_]*)[ \t]+0*([0-9]{1,10})[ \t]*\r?$")
+DANGEROUS_LINE = Pattern(r"(\w+) (?:\[(\d) has (0x[0-9a-f]+)\] )?(\S.*)")
 # At most so many unknown names are listed, and longer ones get no nearest name.
 MOST_LISTED, LONGEST_NAME = 20, 64
 # The least similarity of a nearest name (difflib's ratio), two swapped letters in a name of four, and of a member.
@@ -223,3 +226,19 @@ def classify(names: Sequence[str], judged: Tables) -> Skipped:
             near = nearest(name, *judged.of.values()) if len(skipped.unknown) < MOST_LISTED else None
             skipped.unknown.append((name, near))
     return skipped
+
+
+@dataclass(frozen=True)
+class Dangerous:
+    """Why a syscall is dangerous, and which argument bits make it so."""
+
+    reason: str
+    conditions: tuple[Condition, ...] = ()
+
+
+@functools.lru_cache(None)
+def dangerous() -> dict[str, Dangerous]:
+    """The syscalls that make a sandbox useless, as tables/dangerous.calls lists them."""
+    rows = (DANGEROUS_LINE.fullmatch(line.strip()).groups() for line in program.table_lines("dangerous.calls"))
+    return {name: Dangerous(reason, (Condition(int(index), MASKED, int(bits, 16), int(bits, 16)),) if bits else ())
+            for name, index, bits, reason in rows}

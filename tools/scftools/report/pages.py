@@ -17,7 +17,7 @@ from collections.abc import Iterable, Iterator, Sequence
 
 from ..base import inputs, output, program
 from ..base.values import Any, dataclass
-from ..model import dangerous_calls
+from ..model import tables
 from ..model.answers import ALLOWED, DELEGATED, DENIED, DEPENDS
 from ..model.calls import Call
 from ..model.tables import Table
@@ -263,7 +263,7 @@ def dangerous(stacks: Sequence[Named], table_of: Table) -> Iterator[Markup]:
                for named in stacks]
     lines: list[list[object]] = []
     denied: list[str] = []
-    for name, danger in dangerous_calls.dangerous().items():
+    for name, danger in tables.dangerous().items():
         shown = [rows[name].by_conditions or rows[name].said if name in rows else "not known" for rows in rows_of]
         if table_of.number_of(name) is None:
             continue

@@ -12,8 +12,7 @@ from ..model.answers import ALLOW, ALLOWED, DENIED, DEPENDS
 from ..model.architectures import NATIVE, Architecture
 from ..model.bundles import BESIDE
 from ..model.calls import NO_CALL
-from ..model.dangerous_calls import dangerous
-from ..model.tables import Table, Tables
+from ..model.tables import Table, Tables, dangerous
 from ..ask import client, explanation, other_abis, questions
 from ..ask.explanation import join_names
 from ..ask.regions import span_of

@@ -16,7 +16,7 @@ from forms.test_runtimes import MOBY, PODMAN
 from lint import Linted as Checked
 import kernel_profiles
 from scftools.base import inputs
-from scftools.model import constants, dangerous_calls, libseccomp, tables
+from scftools.model import constants, libseccomp, tables
 from scftools.model.calls import Call
 from scftools.ask import client
 from scftools.lint import oddities, watchlist
@@ -283,7 +283,7 @@ class Dangerous(Linted):
                 for name in it.get("names") or [it["name"]]]
 
     def test_the_list(self):
-        listed, table = dangerous_calls.dangerous(), tables.read_table(TABLE)
+        listed, table = tables.dangerous(), tables.read_table(TABLE)
         self.assertEqual(list(listed), sorted(listed))
         lines = text_of(TOP, "tables", "dangerous.calls").splitlines()
         self.assertEqual(len(listed), sum(not line.startswith("#") for line in lines))
@@ -294,19 +294,19 @@ class Dangerous(Linted):
             self.assertIn(name, listed)
 
     def test_each_of_them(self):
-        names = sorted(dangerous_calls.dangerous())
+        names = sorted(tables.dangerous())
         self.assertEqual(self.made(profile(entry(*names))), [(name, True, 0) for name in names])
         self.assertEqual(self.made(profile(default=ALLOW)), [(name, True, None) for name in names])
         self.assertEqual(self.made(profile(entry("read", "fork"))), [])
 
     def test_the_default_is_one_of_them(self):
         """What the default allows is one finding, with the reasons; what an entry allows stands beside it."""
-        names = sorted(dangerous_calls.dangerous())
+        names = sorted(tables.dangerous())
         given = profile(entry(*names[3:], action=ERRNO), entry("ptrace", args=[(0, "EQ", 7)], action=ERRNO),
                         default=ALLOW)
         found, = self.found(given, kinds=("dangerous-call",))
         self.assertEqual((found["names"], found["is_always"], found["entry"]), (names[:3], True, None))
-        self.assertEqual(found["reasons"], {name: dangerous_calls.dangerous()[name].reason for name in names[:3]})
+        self.assertEqual(found["reasons"], {name: tables.dangerous()[name].reason for name in names[:3]})
         self.assertIn("the default allows 3 syscalls that make a sandbox useless: add_key, bpf and chroot",
                       found["text"])
         given["syscalls"][0]["names"] = names[1:]

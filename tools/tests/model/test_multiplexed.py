@@ -10,7 +10,7 @@ from support.oci import ALLOW, ERRNO, NATIVE, X32, X86, condition, entry, profil
 from support.seccomp_library import NEEDED, Conflict, Library
 from support.several import Reading, word_of
 from support.stand_in import StandIn, unpacked, words_of
-from scftools.model import multiplexed, tables
+from scftools.model import libseccomp, tables
 from scftools.model.calls import Call
 from scftools.lint import kinds
 from scftools.commands import profile_of
@@ -50,7 +50,7 @@ class Words(Case):
     def test_the_numbers_are_those_of_the_headers(self):
         for name, (path, pattern) in HEADERS.items():
             numbers = {name.lower(): int(number) for name, number in re.findall(pattern, text_of(path), re.M)}
-            self.assertEqual(multiplexed.CALL_NUMBERS[name], numbers)
+            self.assertEqual(libseccomp.CALL_NUMBERS[name], numbers)
 
 
 class Multiplexed(Case):
@@ -110,7 +110,7 @@ class Multiplexed(Case):
         self.assertEqual(len(entries), 5)
 
     def test_too_many(self):
-        given = profile(entry(*multiplexed.CALL_NUMBERS["socketcall"],
+        given = profile(entry(*libseccomp.CALL_NUMBERS["socketcall"],
                               args=[condition(1, "NE", value) for value in range(4000)]))
         self.is_refused("the rules of socketcall and ipc have more than 65536 conditions", "resolve-profile",
                         "--multiplexed", "-", given=json.dumps(given).encode())
@@ -128,7 +128,7 @@ class RandomProfile:
                           self.random.choice(SMALL[1:]), self.random.choice(SMALL)) for index in sorted(indices)]
 
     def profile(self):
-        names = [name for numbers in multiplexed.CALL_NUMBERS.values() for name in numbers]
+        names = [name for numbers in libseccomp.CALL_NUMBERS.values() for name in numbers]
         chosen = self.random.sample(names, self.random.randint(1, 12)) + ["getpid", "personality"]
         entries = [self.entry([name], self.conditions()) for name in chosen]
         for name in MULTIPLEXERS:
@@ -158,7 +158,7 @@ class RandomProfile:
 
 
 def with_rules(given):
-    return multiplexed.with_rules(given)[0]
+    return libseccomp.with_rules(given)[0]
 
 
 def differences(resolved, data, calls):
@@ -188,7 +188,7 @@ class BesideLibseccomp(unittest.TestCase):
     def test_each_name_has_its_number_there(self):
         """i386's filter answers socketcall or ipc with one number alone, and nothing else does."""
         library, machine, table = Library(), StandIn(), tables.architecture_table(X86)
-        every = [name for numbers in multiplexed.CALL_NUMBERS.values() for name in numbers]
+        every = [name for numbers in libseccomp.CALL_NUMBERS.values() for name in numbers]
         others = [name for name in table.names() if name not in (*every, *MULTIPLEXERS)]
         for name in (*every, *others):
             if not library.knows(name):
@@ -198,7 +198,7 @@ class BesideLibseccomp(unittest.TestCase):
             multiplexed_calls = [(name, number) for name, at in MULTIPLEXERS.items() for number in range(30)
                      if machine.answer(program, words_of(Call(at, I386, arguments=(number, *[0] * 5)))) == allowed]
             self.assertEqual(multiplexed_calls,
-                             [(syscall, numbers[name]) for syscall, numbers in multiplexed.CALL_NUMBERS.items()
+                             [(syscall, numbers[name]) for syscall, numbers in libseccomp.CALL_NUMBERS.items()
                                      if name in numbers], name)
 
     def test_what_it_refuses_is_a_conflict(self):

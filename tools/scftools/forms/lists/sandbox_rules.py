@@ -7,7 +7,7 @@ from collections.abc import Callable, Iterable, Iterator, Sequence
 
 from ...base import output, program
 from ...base.values import dataclass, field
-from ...model import libseccomp, multiplexed, tables
+from ...model import libseccomp, tables
 from ...model.answers import Answer
 from ...model.architectures import NATIVE
 from ...model.entries import Condition
@@ -105,7 +105,7 @@ class Policy:
             made.append({"names": list(names), **answer.members(), **args,
                          **({"comment": lines_text(lines)} if lines else {})})
         top = {**self.default.default(), "architectures": list(self.architectures), "syscalls": made}
-        return multiplexed.with_rules(top)[0] if self.is_multiplexed else top
+        return libseccomp.with_rules(top)[0] if self.is_multiplexed else top
 
     def data(self) -> DerivedProfile:
         profile = DerivedProfile(json.dumps(self.profile()).encode())
@@ -153,7 +153,7 @@ def knows() -> Callable[[str, str], int | None]:
     def number_in_tables(name: str, architecture: str) -> int:
         table = tables.architecture_table(architecture)
         number = None if table is None else table.number_of(name)
-        return -1 if number is None or multiplexed.is_multiplexed(name, architecture) else number
+        return -1 if number is None or libseccomp.is_multiplexed(name, architecture) else number
 
     library = libseccomp.installed()
     return library.number_of if library is not None else number_in_tables
