@@ -40,7 +40,8 @@ class Scf:
 
     def compile(self, profile: bytes, table: bytes) -> bytes | str:
         """The filter, or the line that refuses the profile."""
-        done = client.run_scf(["compile"], bundles.compilation_bundle(profile, tables.native_alone(table)))
+        done = client.run_scf(["compile"], bundles.profile_bundle(
+            profile, tables.Tables({tables.NATIVE: tables.Table(table)})))
         return done.lines[0] if done.status else done.out
 
 

@@ -228,7 +228,7 @@ def become(words: Sequence[str]) -> NoReturn:
 
 def compile_profile(profile: bytes, tables: Tables) -> bytes:
     """The filter of a profile for the architectures of these tables. Raises Refusal."""
-    done = run_scf(["compile", *tables.words], bundles.compilation_bundle(profile, tables))
+    done = run_scf(["compile", *tables.words], bundles.profile_bundle(profile, tables))
     if done.status != SUCCESS:
         raise Refusal(done.line, done.status)
     return done.out

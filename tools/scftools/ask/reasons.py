@@ -45,7 +45,7 @@ class Reason:
 
 def profile_reason(profile: bytes, judged: Tables, words: Sequence[str]) -> Reason:
     """A profile's reason for the record that scf's options give."""
-    done = client.run_scf(["ask", *judged.words, *words], bundles.compilation_bundle(profile, judged))
+    done = client.run_scf(["ask", *judged.words, *words], bundles.profile_bundle(profile, judged))
     return _read(done.status, done.text)
 
 

@@ -231,7 +231,7 @@ def regions_of_profile(profile: bytes, judged: Tables, places: Sequence[int] | N
                        number: int | None = None) -> list[Region] | None:
     """The regions of a profile, on request with other places of entries, or of one number alone; None if unfinished.
     Raises Refusal."""
-    return asked(judged.words, bundles.compilation_bundle(profile, judged), places, number)
+    return asked(judged.words, bundles.profile_bundle(profile, judged), places, number)
 
 
 class Numbers:

@@ -229,7 +229,7 @@ def checked(status: int, checked_report: Report, is_by_call: bool = False) -> Re
 def compared(filters: Sequence[bytes], profile: bytes, tables: Tables, words: Sequence[str] = (),
              architecture: Architecture = JUDGED[NATIVE]) -> Report:
     """scf's report on filters compared with a profile by these options beside those of the tables, `checked`."""
-    done = client.compare([*tables.words, *words], bundles.comparison_bundle(filters, profile, tables))
+    done = client.compare([*tables.words, *words], bundles.profile_bundle(profile, tables, filters))
     return checked(done.status, report(done.text, 0, architecture), "--calls" in words)
 
 

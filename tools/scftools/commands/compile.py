@@ -102,7 +102,7 @@ def main():
     judged = profile.judged(tables.read_table(options.table), options.native)
     hot = [] if options.hot is None else counts.read_counts(options.hot, profile.data, judged, not options.no_bitmap)
     done = client.run_scf(["compile", "--left-out", *judged.words],
-                          bundles.compilation_bundle(profile.data, judged, hot))
+                          bundles.profile_bundle(profile.data, judged, counts=hot))
     fault = None if done.status == program.SUCCESS else Fault.read(done.line)
     if fault:
         return put(done, options, b"", list(refusals.sentences(fault, profile.data, judged, profile.origins)))

@@ -62,8 +62,8 @@ import re
 import types
 
 from ..base import program
-from ..base.values import replace
 from ..model import profiles, tables
+from ..model.architectures import NATIVE
 from ..cli import words
 from ..forms import operands, runtimes, strace
 from ..forms.profile_inputs import ProfileInput
@@ -116,7 +116,7 @@ def read_files(names, table, options):
             raise program.ToolError(f"'{name}' is a second profile: give one, and filters")
         else:
             profile = profiles.read_as(given.data, reading)
-    own_tables = replace(tables.native_alone(table.data), reading=reading)
+    own_tables = tables.Tables({NATIVE: table}, reading)
     return causes.Inputs(own_tables, profile, stack, options.native)
 
 

@@ -75,7 +75,7 @@ class ProfileInput:
         names = {name for entry in self.profile["syscalls"] for name in entry["names"]}
         for architecture, first in stub.items():
             row, table = JUDGED[architecture], tables.architecture_table(architecture) or tables.Table(b"")
-            covered = sorted(name for name, number in table.numbered() if name in names and row.first + number >= first)
+            covered = sorted(name for name in names & table.names().keys() if row.first + table.names()[name] >= first)
             if covered:
                 yield (f"so it answers {row.name}'s {output.some(covered, engines.MAX_LISTED)}, though the profile "
                        "names them, unless socketcall or ipc makes them: libseccomp tells runc no number of theirs")

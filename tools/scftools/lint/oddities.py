@@ -31,7 +31,7 @@ def of_names(top: Object, judged: tables.Tables) -> Iterator[Finding]:
     places: dict[str, int] = {}
     for place, entry in objects_in(top, "syscalls"):
         places.update((name, place) for name in entry["names"] if name not in places)
-    skipped = tables.classify([name for name in places if not judged.has(name)], judged)
+    skipped = tables.classify([name for name in places if not judged.numbers_of(name)], judged)
     slips = {name: tables.misspelt_as(name, *judged.of.values()) for name, _ in skipped.unknown}
     # (those come first, since of too many the last aren't listed)
     for name, near in sorted(skipped.unknown, key=lambda unknown: slips[unknown[0]] is None):

@@ -37,11 +37,8 @@ def stack_bundle(filters: Sequence[bytes]) -> bytes:
     return bundle(("filter", data) for data in filters)
 
 
-def comparison_bundle(filters: Sequence[bytes], profile: bytes, tables: Tables) -> bytes:
-    """The bundle for `scf compare`: filters, oldest first, a profile and tables."""
-    return bundle([*(("filter", data) for data in filters), ("profile", profile), *tables.parts])
-
-
-def compilation_bundle(profile: bytes, tables: Tables, counts: Iterable[tuple[str, bytes]] = ()) -> bytes:
-    """The bundle for `scf compile` and `scf ask`: a profile and tables, and how often syscalls are called."""
-    return bundle([("profile", profile), *tables.parts, *counts])
+def profile_bundle(profile: bytes, tables: Tables, filters: Sequence[bytes] = (),
+                   counts: Iterable[tuple[str, bytes]] = ()) -> bytes:
+    """The bundle of a profile and tables, with filters, oldest first, for `scf compare`, or with how often syscalls are
+    called for `scf compile`."""
+    return bundle([*(("filter", data) for data in filters), ("profile", profile), *tables.parts, *counts])

@@ -1,5 +1,5 @@
-"""libseccomp: which names and numbers of syscalls the installed one knows (seccomp_syscall_resolve_name(3)), the filters
-that it makes, and the rules that it adds for syscalls that socketcall and ipc make too.
+"""libseccomp: which names of syscalls the installed one knows (seccomp_syscall_resolve_name(3)), the filters that it
+makes, and the rules that it adds for syscalls that socketcall and ipc make too.
 
 For each rule of such a syscall libseccomp adds one of socketcall or ipc (its abi_rule_add): argument 0 is the syscall's
 number there, in place of a condition on argument 0, and the other conditions stay. A rule of socketcall or ipc itself

@@ -3,10 +3,10 @@ syscalls that make a sandbox useless."""
 from __future__ import annotations
 
 import functools
-from collections.abc import Collection, Iterable, Sequence
+from collections.abc import Collection, Iterable, Mapping, Sequence
 
 from ..base import inputs, program
-from ..base.values import Pattern, dataclass, field, replace
+from ..base.values import Pattern, dataclass, field
 from . import architectures, profiles
 from .architectures import JUDGED, NATIVE, Architecture
 from .entries import MASKED, Condition
@@ -49,7 +49,7 @@ class Table:
         return self._parsed[0].get(number, [])
 
     def number_of(self, name: str) -> int | None:
-        return self._parsed[1].get(name)
+        return self.names().get(name)
 
     @functools.cached_property
     def of_slips(self) -> dict[str, str]:
@@ -58,12 +58,9 @@ class Table:
                      for name in self.names() for at in range(len(name) - 1)}
         return {**exchanged, **{slip: name for name in self.names() for slip in _blanked(name)}}
 
-    def names(self) -> Iterable[str]:
-        return self._parsed[1].keys()
-
-    def numbered(self) -> Iterable[tuple[str, int]]:
+    def names(self) -> Mapping[str, int]:
         """The names, each with its number."""
-        return self._parsed[1].items()
+        return self._parsed[1]
 
     def numbers(self) -> Iterable[int]:
         return self._parsed[0].keys()
@@ -107,15 +104,11 @@ class Tables:
 
     def numbers_of(self, name: str) -> dict[str, int]:
         """The numbers of a syscall in those that have it, by OCI names."""
-        numbers = ((oci, table.number_of(name)) for oci, table in self.of.items())
-        return {oci: number for oci, number in numbers if number is not None}
+        return {oci: table.names()[name] for oci, table in self.of.items() if name in table.names()}
 
     def number_of(self, name: str) -> int | None:
         """The number of a syscall in the first one that has it."""
         return next(iter(self.numbers_of(name).values()), None)
-
-    def has(self, name: str) -> bool:
-        return bool(self.numbers_of(name))
 
     @property
     def native(self) -> Table:
@@ -134,15 +127,6 @@ class Tables:
         stubs = [(f"stub-{JUDGED[name].kind}", str(first).encode()) for name, first in self.stub.items()
                  if name in self.of]
         return [*((JUDGED[name].kind, table.data) for name, table in self.of.items()), *stubs]
-
-    def only(self, name: str) -> Tables:
-        """The table of one of the architectures."""
-        return replace(self, of={name: self.of[name]})
-
-
-def native_alone(data: bytes) -> Tables:
-    """A table of x86-64 and no other, for a profile that is read by its words."""
-    return Tables({NATIVE: Table(data)})
 
 
 def architecture_tables(names: Iterable[str], table: Table, default: str = NATIVE) -> Tables:

@@ -158,7 +158,8 @@ class Pair:
 
     def asked(self, scope: Sequence[str], relation: str, name: str | None = None) -> tuple[int, Report]:
         """scf's exit status and report by the options of a scope, or of those of one architecture."""
-        judged, is_by_call = self.tables if name is None else self.tables.only(name), "--calls" in scope
+        judged = self.tables if name is None else replace(self.tables, of={name: self.tables.of[name]})
+        is_by_call = "--calls" in scope
         done = client.compare([*self.words(judged), *scope, *RELATIONS[relation]], self.bundle(judged, is_by_call))
         pointer = None if is_by_call and any(map(looks_at_pointer, itertools.chain(*self.stacks))) else 0
         return done.status, verdicts.report(done.text, pointer, JUDGED[name or NATIVE])
@@ -266,7 +267,7 @@ class Comparison(Pair):
         return [[each.data for each in self.filters]]
 
     def bundle(self, judged: Tables, is_by_call: bool = False) -> bytes:
-        return bundles.comparison_bundle(self.stacks[0], self.profile, judged)
+        return bundles.profile_bundle(self.profile, judged, self.stacks[0])
 
     def run_by_stub(self, scope: str | None = None) -> tuple[Comparison, int, Report]:
         """The same without runc's stub if that differs and the filters answer its first number nowhere as it does."""
@@ -367,7 +368,7 @@ class Comparison(Pair):
 
 def left_out(profile: bytes, judged: Tables) -> Report:
     """A report on what scf leaves out of a profile: names that no table has, and architectures without one."""
-    return Report((), skipped=tuple(name for name in profiles.names_of(profile) if not judged.has(name)),
+    return Report((), skipped=tuple(name for name in profiles.names_of(profile) if not judged.numbers_of(name)),
                   architectures=tuple(name for name in profiles.architectures_of(profile) if name not in judged.of))
 
 
@@ -462,7 +463,7 @@ class ProfileComparison(Pair):
         return [] if is_alike else [[client.compile_profile(self.left.data, left)]]
 
     def bundle(self, judged: Tables, is_by_call: bool = False) -> bytes:
-        return bundles.comparison_bundle(self.stacks[0], self.right.data, judged) if self.stacks else \
+        return bundles.profile_bundle(self.right.data, judged, self.stacks[0]) if self.stacks else \
             bundles.bundle([("profile", self.left.data), (bundles.BESIDE_PROFILE, self.right.data), *judged.parts])
 
     @property

@@ -413,7 +413,7 @@ class Drawn(Case):
                 judged = tables.tables_of_profile(applied.data, tables.read_table(None))
                 for name in judged.of:
                     words = by_words(json.loads(applied.data), runtime, name, JUDGED[name].bits)
-                    counts[self.compared_readings(applied, judged.only(name), json.dumps(words).encode())] += 1
+                    counts[self.compared_readings(applied, replace(judged, of={name: judged.of[name]}), json.dumps(words).encode())] += 1
         self.assertGreater(min(counts.values()), 25)
 
     def compared_readings(self, applied, judged, words):

@@ -86,7 +86,7 @@ class Changes(Denials):
             log = events.read_events([f"10 {line}", f"11 {line}"] * 1000, table)
         self.assertEqual((read.call_count, log.failures.count), (2, 2000))
         log = events.read_events([f"chroot({at:#x}) = -1 EPERM (Operation not permitted)" for at in range(500)], table)
-        given = causes.Inputs(tables.native_alone(table.data), json.dumps(PROFILE).encode())
+        given = causes.Inputs(tables.Tables({tables.NATIVE: table}), json.dumps(PROFILE).encode())
         with mock.patch.object(client, "run_scf", wraps=client.run_scf) as run:
             self.assertEqual([denial.count for denial in cause_report.denials_of(log.failures, given).of], [500])
         self.assertEqual([call.args[0][0] for call in run.call_args_list], ["answers"])

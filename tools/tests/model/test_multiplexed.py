@@ -25,7 +25,7 @@ def reading_of(resolved):
     """What the entries say of i386 calls; those that answer as the default does are none."""
     default = word_of(resolved["defaultAction"], resolved.get("defaultErrnoRet"))
     kept = [each for each in resolved["syscalls"] if word_of(each["action"], each.get("errnoRet")) != default]
-    reading = Reading({**resolved, "syscalls": kept}, [X86], {X86: dict(tables.architecture_table(X86).numbered())})
+    reading = Reading({**resolved, "syscalls": kept}, [X86], {X86: tables.architecture_table(X86).names()})
     assert reading.fault() is None, resolved
     return reading
 

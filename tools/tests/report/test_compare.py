@@ -179,7 +179,7 @@ class Compare(Case):
                     judged = tables.tables_of_profile(data, tables.read_table(None), is_native)
                     flags = [] if is_native else ["--architectures"]
                     done = client.run_scf(["compare", *flags, *[f"--reading={reading}"] * (reading != "strict")],
-                                      bundles.comparison_bundle([ret(ALLOW)], data, judged))
+                                      bundles.profile_bundle(data, judged, [ret(ALLOW)]))
                     report = compare.left_out(data, judged)
                     text = "".join([f"skipped {name}\n" for name in report.skipped]
                                    + [f"other {name}\n" for name in report.architectures])

@@ -268,7 +268,7 @@ class Ask(Case):
                 call = Call(random_of.choice((*kernel_profiles.TABLE.values(), X32 - 1, X32)),
                             random_of.choice((*[X86_64] * 9, I386)), 0, tuple(values))
                 word, place, conditions = reading(profile, call)
-                reason = reasons.profile_reason(profile, tables.native_alone(table.data), call.words())
+                reason = reasons.profile_reason(profile, tables.Tables({tables.NATIVE: table}), call.words())
                 self.assertEqual((reason.status, reason.line),
                                  (0, f"{kernel_profiles.answer_of(profile, call).action} {reason.answer.data} {word}"))
                 self.assertEqual(reason.answer, kernel_profiles.answer_of(profile, call))
