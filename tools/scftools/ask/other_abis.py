@@ -9,10 +9,9 @@ from collections.abc import Sequence
 
 from ..base.values import dataclass
 from ..model import tables
-from ..model.answers import ALLOWED, KILL_PROCESS, Answer
+from ..model.answers import ALLOWED, KILL_PROCESS
 from ..model.architectures import JUDGED, NATIVE, Architecture
 from ..model.calls import NO_CALL, Call, number_text
-
 from .questions import IS_DENIED, Asker
 from .regions import Numbers, Region
 from .verdicts import MORE, NO_MORE, Verdict
@@ -40,21 +39,19 @@ class AbiAccess:
         return self.verdict.holds or self.verdict.fails
 
     @property
-    def not_denied(self) -> tuple[Call, Answer] | None:
-        """A syscall that isn't denied, with its answer."""
-        call, answer = self.verdict.call, self.verdict.filters
-        return (call, answer) if call is not None and answer is not None else None
+    def call(self) -> Call | None:
+        """A syscall that isn't denied."""
+        return self.verdict.call
 
     @property
     def names(self) -> list[str]:
-        """The names of that syscall."""
-        return self.not_denied[0].names(tables.Table(b"")) if self.not_denied else []
+        return [] if self.call is None else self.call.names(tables.Table(b""))
 
     def describe(self) -> str:
-        if self.not_denied is None:
+        call, answer = self.call, self.verdict.filters
+        if call is None:
             access = "every syscall is denied" if self.are_denied else "undecided whether any syscall is allowed"
             return f"{self.abi.name}: {access}"
-        call, answer = self.not_denied
         which = "some syscalls are allowed" if answer.disposition == ALLOWED else "not every syscall is denied"
         text = number_text(call.number, call.architecture)
         shown = f"{self.names[0]} ({text.partition(' ')[2]})" if self.names else text
@@ -62,7 +59,7 @@ class AbiAccess:
 
     def as_json(self) -> dict[str, object]:
         shown = [{"number": call.number, "names": self.names, "architecture": hex(call.architecture),
-                  "answer": answer.as_json()} for call, answer in filter(None, [self.not_denied])]
+                  "answer": self.verdict.filters.as_json()} for call in filter(None, [self.call])]
         return {"kind": self.abi.name, "is_decided": self.is_decided, "not_denied": shown}
 
 
@@ -85,13 +82,3 @@ def abi_access(filters: Sequence[bytes], filter_regions: Sequence[Region] | None
                                             for _, _, here in ranges for region in here)
     return AbiAccess(architecture, Verdict(NO_MORE) if are_denied else Asker(filters, architecture).of_numbers(
         IS_DENIED, 0, last - architecture.first))
-
-
-def machine_access(filters: Sequence[bytes], filter_regions: Sequence[Region] | None, machine: str) -> list[AbiAccess]:
-    """The access of each other ABI of a machine."""
-    return [abi_access(filters, filter_regions, architecture) for architecture in OF_MACHINES[machine]]
-
-
-def are_none(accesses: Sequence[AbiAccess]) -> bool:
-    """Whether it is proved that every syscall of these ABIs is denied."""
-    return all(access.are_denied for access in accesses)

@@ -72,13 +72,10 @@ def conditions_met(reason: Reason, profile: bytes, call: Call) -> list[str]:
     """Lines on the conditions of the entry that gives the answer, if one does, as far as it is known that a call meets
     them, with the values of its arguments."""
     entry, lines = None if reason.entry is None else profiles.entry_at(profile, reason.entry), []
-    given = entry.get("args") if isinstance(entry, dict) else None
-    for condition in given if isinstance(given, list) else ():
-        if not isinstance(condition, dict):
-            continue
-        index, op, value = (condition.get(name) for name in ("index", "op", "value"))
-        two = condition.get("valueTwo") or 0
-        if not (isinstance(index, int) and isinstance(value, int) and isinstance(two, int) and 0 <= index < 6):
+    for _, condition in profiles.objects_in(entry or {}, "args"):
+        index, op, value, two = (condition.get(name) for name in ("index", "op", "value", "valueTwo"))
+        two = two or 0
+        if not (all(isinstance(number, int) for number in (index, value, two)) and 0 <= index < 6):
             continue
         argument = call.arguments[index] & (1 << call.bits) - 1
         if isinstance(op, str) and op in HOLDS and HOLDS[op](argument, value, two):

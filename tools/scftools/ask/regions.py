@@ -53,8 +53,7 @@ def _bits_in(text: str) -> tuple[int, int]:
 def _interval_in(text: str) -> tuple[int, int]:
     """The least and the greatest value of an interval."""
     low, _, high = text.partition("-")
-    value = _number_in(low)
-    return value, _number_in(high) if high else value
+    return _number_in(low), _number_in(high or low)
 
 
 class Word:
@@ -135,10 +134,6 @@ class Region(Side):
     def is_decided(self) -> bool:
         """Whether each of its records gets its answer, or both."""
         return self.is_exact and self.answer is not None and (self.beside is None or self.beside.answer is not None)
-
-    def is_of(self, number: int, architecture: int) -> bool:
-        """Whether some of its records have this number and architecture."""
-        return self.words.get(NUMBER, FREE).has(number) and self.words.get(ARCHITECTURE, FREE).has(architecture)
 
     def has(self, arguments: Mapping[int, int], halves: Sequence[int] = (0, 1)) -> bool:
         """Whether some record has these arguments, or these halves, by their indexes; the pointer's is POINTER."""
@@ -275,32 +270,6 @@ class Numbers:
                 yield first - self.first, count, here
 
 
-class Lookup:
-    """The regions in which records lie, of those that scf prints, or None if they are unfinished."""
-
-    def __init__(self, regions: Sequence[Region] | None):
-        self.regions, self.is_finished = regions, regions is not None
-        # by the OCI names of architectures
-        self._numbers: dict[str, Numbers] = {}
-
-    def of_architecture(self, architecture: Architecture) -> Numbers:
-        """Those of an architecture, by syscall numbers."""
-        if architecture.oci not in self._numbers:
-            self._numbers[architecture.oci] = Numbers(self.regions, architecture)
-        return self._numbers[architecture.oci]
-
-    def of_number(self, call: Call) -> Sequence[Region]:
-        """Those with records of its number and architecture."""
-        architecture = call.judged
-        return self.of_architecture(architecture).of(call.number) if architecture is not None else \
-            [region for region in self.regions or () if region.is_of(call.number, call.architecture)]
-
-    def of(self, call: Call) -> Region | None:
-        """The decided region of a record, None if there is none."""
-        record = {POINTER: call.pointer or 0, **dict(enumerate(call.arguments))}
-        return next((region for region in self.of_number(call) if region.is_decided and region.has(record)), None)
-
-
 # Records by the first and the last of their architecture numbers, and of their syscall numbers.
 Span = tuple[tuple[int, int], tuple[int, int]]
 EVERY_NUMBER = 0, GREATEST_WORD
@@ -358,12 +327,32 @@ def _verdict(relation: str, listed: Iterable[Region], record_in: Callable[[Regio
     return Verdict(relation) if is_known else None
 
 
-class Differences(Lookup):
-    """The regions that scf prints of two sides, None if they are unfinished; and what it calls the second side."""
+class Lookup:
+    """The regions in which records lie, of those that scf prints, or None if they are unfinished; and what it calls the
+    second of two sides."""
 
-    def __init__(self, listed: Sequence[Region] | None, beside: str):
-        super().__init__(listed)
-        self._beside = beside
+    def __init__(self, regions: Sequence[Region] | None, beside: str = "profile"):
+        self.regions, self.is_finished, self._beside = regions, regions is not None, beside
+        # by the OCI names of architectures
+        self._numbers: dict[str, Numbers] = {}
+
+    def of_architecture(self, architecture: Architecture) -> Numbers:
+        """Those of an architecture, by syscall numbers."""
+        if architecture.oci not in self._numbers:
+            self._numbers[architecture.oci] = Numbers(self.regions, architecture)
+        return self._numbers[architecture.oci]
+
+    def of_number(self, call: Call) -> Sequence[Region]:
+        """Those with records of its number and architecture."""
+        if call.judged is not None:
+            return self.of_architecture(call.judged).of(call.number)
+        return [region for region in self.regions or () if region.words.get(NUMBER, FREE).has(call.number)
+                and region.words.get(ARCHITECTURE, FREE).has(call.architecture)]
+
+    def of(self, call: Call) -> Region | None:
+        """The decided region of a record, None if there is none."""
+        record = {POINTER: call.pointer or 0, **dict(enumerate(call.arguments))}
+        return next((region for region in self.of_number(call) if region.is_decided and region.has(record)), None)
 
     @property
     def unknown(self) -> Verdict:

@@ -119,7 +119,7 @@ def default_of(data: bytes) -> Answer | None:
     return entries.default_of(top) if isinstance(top.get("defaultAction"), str) else None
 
 
-def entry_at(data: bytes, place: int) -> object:
+def entry_at(data: bytes, place: int) -> dict[str, Any] | None:
     """The entry at an index of `syscalls`, from 0 on, or None if it can't be read."""
     listed = _top(data).get("syscalls")
     return listed[place] if isinstance(listed, list) and place < len(listed) else None

@@ -16,7 +16,7 @@ from ..model.tables import Table, Tables
 from ..ask import client, other_abis, reasons, regions, verdicts
 from ..ask.client import Fault, Refusal
 from ..ask.other_abis import AbiAccess
-from ..ask.regions import EVERY_RECORD, Differences, Region, beyond, span_of
+from ..ask.regions import EVERY_RECORD, Lookup, Region, beyond, span_of
 from ..ask.verdicts import (ALL, CALLS, FAILING_WORDS, FOR_OTHER_ABI, LESS, LISTED, MORE, NATIVE_SCOPE, NO_LESS,
                             NO_MORE, RELATIONS, SAME, SCOPES, UNDETERMINED, UNFINISHED, NamedCall, Report, Verdict,
                             checked)
@@ -31,9 +31,9 @@ TURNED = {NO_MORE: NO_LESS, NO_LESS: NO_MORE, MORE: LESS, LESS: MORE}
 
 
 @functools.lru_cache(8)
-def _listed(words: tuple[str, ...], bundle: bytes, beside: str, _limit: str | None) -> Differences:
+def _listed(words: tuple[str, ...], bundle: bytes, beside: str, _limit: str | None) -> Lookup:
     """The differences of the sides in a bundle, within a limit. Raises Refusal."""
-    return Differences(regions.asked(["--differences", *words], bundle), beside)
+    return Lookup(regions.asked(["--differences", *words], bundle), beside)
 
 
 # Filters, oldest first, or a profile.
@@ -140,7 +140,7 @@ class Pair:
         return tuple(self.words(self.tables)), self.bundle(self.tables)
 
     @property
-    def found(self) -> Differences:
+    def found(self) -> Lookup:
         """All that both sides may answer differently, which is asked for once. Raises Refusal."""
         listed = _listed(*self._question, self.beside, client.limits.get("limit"))
         # (what takes all steps isn't known later either)
@@ -149,12 +149,12 @@ class Pair:
         return listed
 
     @property
-    def differences(self) -> Differences:
+    def differences(self) -> Lookup:
         """The same of sides that scf has taken: unfinished if it lacks memory for that."""
         try:
             return self.found
         except Refusal:
-            return Differences(None, self.beside)
+            return Lookup(None, self.beside)
 
     def asked(self, scope: Sequence[str], relation: str, name: str | None = None) -> tuple[int, Report]:
         """scf's exit status and report by the options of a scope, or of those of one architecture."""
@@ -397,9 +397,9 @@ class StackComparison(Pair):
         return [[bpf_filter.data for bpf_filter in side] for side in (self.left, self.right)]
 
     @property
-    def found(self) -> Differences:
+    def found(self) -> Lookup:
         left, right = self.stacks
-        return Differences([], self.beside) if left == right else super().found
+        return Lookup([], self.beside) if left == right else super().found
 
     def words(self, judged: Tables) -> list[str]:
         return ["--beside"]

@@ -110,9 +110,9 @@ def whole_lines(surface: Surface) -> list[str]:
     of_others = [f"it is for {join_names(names)}, which --arch lists: every {join_names(denied)} syscall is denied"] \
         if names else []
     counted = [beside.asker.architecture for beside in surface.others if {*beside.counts} != {DENIED}]
-    remaining = [access for access in surface.foreign if access.abi not in counted or access.not_denied is None]
+    remaining = [access for access in surface.foreign if access.abi not in counted or access.call is None]
     foreign = [*(access.describe() for access in remaining), "other ABIs: the kernel has no others"]
-    if other_abis.are_none(remaining):
+    if all(access.are_denied for access in remaining):
         foreign = [f"other ABIs: every {join_names([access.abi.name for access in remaining])} syscall is denied; the "
                    "kernel has no others"] if remaining else []
     others = [f"{_summary(beside)} (--arch {beside.asker.architecture.name} lists them)" for beside in surface.others]

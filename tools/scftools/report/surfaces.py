@@ -183,10 +183,10 @@ class Surface:
         """The architectures of other machines of which some syscall isn't denied, if this machine's are all denied."""
         known_abis = {self.asker.architecture, *(access.abi for access in self.foreign)}
         is_denied = {*self.counts} == {DENIED} and not self.unnamed.not_denied and not self.unnamed.undecided and \
-            other_abis.are_none(self.foreign)
+            all(access.are_denied for access in self.foreign)
         return [architecture for architecture in JUDGED.values() if is_denied and self.foreign
                 and architecture not in known_abis
-                and other_abis.abi_access(self.asker.filters, self.regions, architecture).not_denied is not None]
+                and other_abis.abi_access(self.asker.filters, self.regions, architecture).call is not None]
 
 
 def _ask(asker: Asker, rows: Iterable[Row]) -> None:
@@ -217,7 +217,8 @@ def of_regions(filters: Sequence[bytes], filter_regions: Sequence[Region] | None
     if filter_regions is not None:
         asker.check(table)
         _ask(asker, rows)
-    foreign = other_abis.machine_access(filters, filter_regions, architecture.oci) if is_machine else []
+    foreign = [other_abis.abi_access(filters, filter_regions, abi)
+               for abi in (other_abis.OF_MACHINES[architecture.oci] if is_machine else ())]
     unnamed = Unnamed(architecture.last - architecture.first + 1 - len(table.numbers()))
     for number, count, here in numbers.unnamed(table):
         unnamed.add(Row(number, [], architecture, here), count)

@@ -13,7 +13,7 @@ from scftools.model import architectures, tables
 from scftools.model.answers import Answer
 from scftools.model.calls import Call
 from scftools.ask import regions
-from scftools.ask.regions import EVERY_RECORD, Differences, span_of
+from scftools.ask.regions import EVERY_RECORD, Lookup, span_of
 from scftools.ask.verdicts import ALL, CALLS, NATIVE_SCOPE, NO_LESS, NO_MORE, SAME, UNDECIDED, Verdict
 from scftools.forms.filters import Filter
 from scftools.report.compare import Comparison, StackComparison
@@ -31,7 +31,7 @@ UNKNOWN = ("unknown at 0:9 beside KILL_PROCESS 0 foreign w1 0x40000028\n"
 
 
 def found(*lines):
-    return Differences(regions.parse_regions("".join(lines) + f"regions {len(lines)} steps 9\n"), "profile")
+    return Lookup(regions.parse_regions("".join(lines) + f"regions {len(lines)} steps 9\n"), "profile")
 
 
 class Parsed(unittest.TestCase):
@@ -69,8 +69,8 @@ class Parsed(unittest.TestCase):
         self.assertEqual(found(OPEN).verdict(NO_LESS, [span_of(NATIVE)]).word, NO_LESS)
         self.assertEqual(found(OPEN, ERRNO).verdict(SAME, [span_of(NATIVE)]).call.number, 450)
         self.assertIsNone(found(OPEN).calls(NATIVE, tables.Table(b"times 100\n"), SAME))
-        self.assertIsNone(Differences(None, "profile").verdict(SAME, EVERY_RECORD))
-        self.assertIsNone(Differences(None, "profile").calls(NATIVE, tables.Table(b""), SAME))
+        self.assertIsNone(Lookup(None, "profile").verdict(SAME, EVERY_RECORD))
+        self.assertIsNone(Lookup(None, "profile").calls(NATIVE, tables.Table(b""), SAME))
 
     def test_an_answer_of_the_other_side_that_is_not_known(self):
         listed = found("ALLOW 0 at 0:0 beside unknown at 0:4\ncall nr 0 arch 0x0 ip 0x0 args 0x0 0x0 0x0 0x0 0x0 0x0\n")

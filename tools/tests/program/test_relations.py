@@ -11,7 +11,7 @@ from support.common import (ALLOW, EPERM, I386, KILL_PROCESS, LOG, TRACE, USER_N
 from support.confined import Confined, here
 from support.several import disposition
 from support.stand_in import StandIn
-from scftools.model import answers, architectures, calls, tables
+from scftools.model import answers, calls, tables
 from scftools.ask import client, other_abis, regions
 from scftools.forms.filters import Filter
 from scftools.report import compare
@@ -35,7 +35,7 @@ def allows_alone(kind):
 
 def known_of(filters):
     """What filters allow of i386 and x32."""
-    return other_abis.machine_access(filters, regions.regions_of_filters(filters), architectures.NATIVE)
+    return [other_abis.abi_access(filters, regions.regions_of_filters(filters), abi) for abi in other_abis.ABIS]
 
 
 def one_number(number, answer, default):
@@ -153,9 +153,9 @@ class Foreign(Case):
                            and disposition(StandIn().decision(filters, call))]
                 self.assertEqual(access.are_denied, not through, (kind.name, filters))
                 if through:
-                    call, answer = access.not_denied
+                    call = access.call
                     self.assertTrue(self.is_of(kind, call), access)
-                    self.assertEqual(answer, answers.Answer.read(StandIn().decide(filters, call)))
+                    self.assertEqual(access.verdict.filters, answers.Answer.read(StandIn().decide(filters, call)))
 
     def is_of(self, kind, call):
         if call.architecture == X86_64:
@@ -204,9 +204,9 @@ class Foreign(Case):
             ret(EPERM)
         accesses = known_of([squares])
         self.assertEqual([access.is_decided for access in accesses], [True, True])
-        call, answer = accesses[0].not_denied
+        call = accesses[0].call
         self.assertTrue(self.is_of(accesses[0].abi, call), accesses)
-        self.assertEqual((call.number ** 2 & 0xFFFFFFFF, str(answer)), (9, "LOG"))
+        self.assertEqual((call.number ** 2 & 0xFFFFFFFF, str(accesses[0].verdict.filters)), (9, "LOG"))
         # x86-64 and x32 share an architecture, whose own number is squared there
         self.assertNotEqual(X86_64 ** 2 & 0xFFFFFFFF, 9)
         self.assertTrue(accesses[1].are_denied, accesses)
