@@ -50,7 +50,7 @@ class Asker:
 
     def profile_of(self, question: Question) -> bytes:
         """The profile of a question, for the architecture."""
-        return question.answer.as_profile([self.architecture.oci]) or b""
+        return question.answer.as_profile(self.architecture.oci)
 
     @property
     def looks_at_pointer(self) -> bool:

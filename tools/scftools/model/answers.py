@@ -4,7 +4,6 @@ from __future__ import annotations
 
 import errno
 import json
-from collections.abc import Sequence
 
 from ..base.values import Pattern, dataclass
 
@@ -122,16 +121,6 @@ class Answer:
         """The name of its action in the OCI specification."""
         return f"SCMP_ACT_{'NOTIFY' if self.action == 'USER_NOTIF' else self.action}"
 
-    @property
-    def is_of_profiles(self) -> bool:
-        """Whether a profile can give it by its words."""
-        return self.action in ACTIONS_WITH_DATA or self.action != "UNNAMED" and not self.data
-
-    @property
-    def is_of_sandboxes(self) -> bool:
-        """Whether a profile can give it that is read with TRAP's data."""
-        return self.is_of_profiles or self.action == "TRAP"
-
     def members(self, action: str = "action", number: str = "errnoRet") -> dict[str, object]:
         """The members of an entry, or of the default, that give it."""
         has_data = self.action in ACTIONS_WITH_DATA or self.action == "TRAP" and self.data
@@ -141,11 +130,9 @@ class Answer:
         """The members of a profile whose default it is."""
         return self.members("defaultAction", "defaultErrnoRet")
 
-    def as_profile(self, architectures: Sequence[str] = ()) -> bytes | None:
-        """A profile that gives each syscall of these architectures, or x86-64's, this answer, or None if none can."""
-        if self.action == "USER_NOTIF" or not self.is_of_profiles:
-            return None
-        return json.dumps({**self.default(), "architectures": list(architectures)}).encode()
+    def as_profile(self, architecture: str) -> bytes:
+        """A profile that gives each syscall of an architecture this answer, which a profile can give."""
+        return json.dumps({**self.default(), "architectures": [architecture]}).encode()
 
     def as_json(self, explains: bool = False) -> dict[str, object]:
         value: dict[str, object] = {"action": self.action, "data": self.data}

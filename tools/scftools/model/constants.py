@@ -11,7 +11,7 @@ import re
 from collections.abc import Mapping, Sequence
 
 from ..base import program
-from ..base.values import Pattern, dataclass, field
+from ..base.values import Pattern
 from . import architectures, tables
 
 # Of an argument the kernel reads 32 bits or fewer; a whole register; an address.
@@ -128,25 +128,20 @@ MOST_NAMES_OF_VALUE, MOST_ZEROS, SMALL = 6, 2, 1 << 16
 WORD_VALUES, REGISTER_VALUES = 1 << 32, 1 << 64
 
 
-@dataclass
 class Family:
-    """The constants of one kind of argument. The bits of `mask` are one number, by `of_mask`; each other bit, or some
-    bits together, has a name of its own in `bits`."""
+    """The constants of one kind of argument on an architecture, by the table's words: the mask, and names, or the
+    beginnings of names before `*`, that are in the family, or after `-` are not. The bits of `mask` are one number, by
+    `of_mask`; each other bit, or some bits together, has a name of its own in `bits`. Of two constants with one number
+    the first in the list of numbers is kept."""
 
-    mask: int
-    of_mask: dict[int, str] = field(default_factory=dict)
-    bits: dict[int, str] = field(default_factory=dict)
-    # of each constant the index of its pattern
-    ranks: dict[str, int] = field(default_factory=dict)
-
-    @classmethod
-    def read(cls, words: Sequence[str], architecture: str) -> Family:
-        """The family of the table's words on the architecture of this OCI name: the mask, and names, or the beginnings
-        of names before `*`, that are in the family, or after `-` are not. Of two constants with one number the first in
-        the list of numbers is kept."""
+    def __init__(self, words: Sequence[str], architecture: str):
         masks = [word for word in words if word.startswith("0")]
         patterns = [word for word in words if not word.startswith("0")]
-        family = cls(int(masks[-1], 0) if masks else 0)
+        self.mask = int(masks[-1], 0) if masks else 0
+        self.of_mask: dict[int, str] = {}
+        self.bits: dict[int, str] = {}
+        # of each constant the index of its pattern
+        self.ranks: dict[str, int] = {}
         rank_of: dict[str, int] = {}
         ordered = _ordered(architecture)
         for rank, pattern in enumerate(patterns):
@@ -159,14 +154,13 @@ class Family:
             number, rank = numbers_by_name[name], rank_of[name]
             # a bit of the sign of 32 bits would be 33 bits of a register
             if not patterns[rank].startswith("-") and number > -SMALL:
-                number, family.ranks[name] = number % WORD_VALUES, rank
-                if number & ~family.mask == 0:
-                    family.of_mask.setdefault(number, name)
-                elif number & family.mask == 0:
-                    family.bits.setdefault(number, name)
+                number, self.ranks[name] = number % WORD_VALUES, rank
+                if number & ~self.mask == 0:
+                    self.of_mask.setdefault(number, name)
+                elif number & self.mask == 0:
+                    self.bits.setdefault(number, name)
         # what has more bits goes first, as O_SYNC before O_DSYNC
-        family.bits = dict(sorted(family.bits.items(), key=lambda item: (-bin(item[0]).count("1"), item[0])))
-        return family
+        self.bits = dict(sorted(self.bits.items(), key=lambda item: (-bin(item[0]).count("1"), item[0])))
 
     def describe(self, value: int) -> str | None:
         """A value below 2^32 by its constants, or None if it has none."""
@@ -209,7 +203,7 @@ def _words() -> tuple[dict[str, list[str]], dict[str, list[str]]]:
 @functools.lru_cache(None)
 def _family(name: str, architecture: str) -> Family:
     """A family, of constants that are on an architecture what they are on x86-64."""
-    return Family.read(_words()[0][name], architecture)
+    return Family(_words()[0][name], architecture)
 
 
 def _value_text(value: int, kind: str, family: Family | None) -> str:

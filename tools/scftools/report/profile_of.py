@@ -13,7 +13,7 @@ from collections.abc import Callable, Iterable, Iterator, Sequence
 from ..base import output, program
 from ..base.values import Any, dataclass, field, replace
 from ..model import architectures, constants, profiles, tables
-from ..model.answers import DISPOSITIONS, ENOSYS, FIRST_X32, Answer
+from ..model.answers import ACTIONS_WITH_DATA, DISPOSITIONS, ENOSYS, FIRST_X32, Answer
 from ..model.architectures import JUDGED, NATIVE, Architecture
 from ..model.argument_sets import EMPTY_SET, FIRST_UNTESTED, FULL_SET, MOST_STEPS, Sets, Steps, TooMany
 from ..model.profiles import SANDBOX, STRICT, TRAP
@@ -47,7 +47,7 @@ def nearest(word: int | None, is_permissive: bool, has_trap_data: bool) -> Answe
     answer = Answer.of_word(word)
     if answer.action == "UNNAMED":
         return NOTHING
-    is_said = answer.is_of_sandboxes if has_trap_data else answer.is_of_profiles
+    is_said = not answer.data or answer.action in ACTIONS_WITH_DATA or has_trap_data and answer.action == "TRAP"
     return answer if is_said else Answer(answer.action, 0)
 
 

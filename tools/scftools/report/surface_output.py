@@ -282,7 +282,7 @@ def compared_surfaces(*sides: Surface) -> Beside:
         verdict = comparison.differences.verdict(SAME, [span_of(abi.oci, last=NO_CALL - 1)])
         if verdict is None:
             # behind a filter that allows these alone, since no scope of scf has them
-            alone = client.compile_profile(ALLOW.as_profile([abi.oci]) or b"", Tables({abi.oci: Table(b"")}))
+            alone = client.compile_profile(ALLOW.as_profile(abi.oci), Tables({abi.oci: Table(b"")}))
             verdict = _comparison([[alone, *side] for side in comparison.stacks], comparison.table).run()[1].verdict
         of_foreign.append(verdict or Verdict(UNFINISHED))
     worst = min([*(pair.line.verdict for pair in pairs), *of_unnamed, *of_foreign], key=lambda verdict: verdict.order,
