@@ -75,7 +75,7 @@ def read_words():
     parser = words.Parser(__doc__, processes.NEEDS)
     parser.scope("x86-64 syscalls alone, whatever architectures the profile names")
     parser.add_argument("--container", action="store_true", help="all processes in the container of PID")
-    parser.add_argument("--all", dest="container", action="store_true", help=words.ITS_OLD_NAME)
+    parser.add("--all", dest="container")
     parser.add("--force")
     parser.relation()
     runtimes.add_options(parser, without_caps="the bounding set of PID")

@@ -42,11 +42,6 @@ def same_as(name: str) -> str:
     return f"the same as scf {ALIASES[name]}"
 
 
-def words_before(name: str | None) -> list[str]:
-    """The words that a command by another name has before its own."""
-    return [word for word in ALIASES.get(name or "", "").split()[1:] if not word.endswith(":")]
-
-
 def before_inputs(name: str | None) -> str:
     """What a command by another name puts before the names of its inputs."""
     last = ALIASES.get(name or "", "").rpartition(" ")[2]

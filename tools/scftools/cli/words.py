@@ -1,17 +1,23 @@
-"""The command line of a tool. Usage errors are printed safely, under the name by which the tool was called."""
+"""The command line of a tool. Usage errors are printed safely, under the name by which the tool was called.
+
+If a tool is given no file, the proved program answers standard input, and nothing is added to its lines and statuses.
+The program takes a filter, or a bundle of several inputs. In place of a bundle, `decide` and `answers` also take a
+filter alone, and `ask` and `compile` a profile alone, as they do a file.
+"""
 from __future__ import annotations
 
+import os
 import re
 import sys
 import types
 from collections.abc import Callable, Iterable
 
-from ..base import output, program
+from ..base import inputs, output, program
 from ..base.values import Any, NoReturn, Pattern
-from ..model import architectures, tables
+from ..model import architectures, bundles, tables
 from ..model.architectures import JUDGED
 from ..ask import client, verdicts
-from . import commands, standard_input
+from . import commands
 
 # argparse imports gettext, and looks for translations of its messages at each start: the tools have none.
 sys.modules.setdefault("gettext", types.SimpleNamespace(  # type: ignore
@@ -31,19 +37,26 @@ OBJECT_NAME, LONGEST_OBJECT_NAME = Pattern(r"[a-z0-9]([-a-z0-9]*[a-z0-9])?(\.[a-
 # What the statuses of each tool have in common.
 OTHER_STATUSES = ("It is 2 if anything can't be read, is refused or is misspelt, or the output can't be written; 70 "
                   "after an internal error; 125 if scf can't be run.")
-# The help of an option that stays for scripts: none.
-ITS_OLD_NAME = argparse.SUPPRESS
 OF_DISPOSITION = "only check that both sides deny, delegate and allow the same"
-
-
-def is_object_name(text: str) -> bool:
-    """Whether a text is a name of Kubernetes' objects (RFC 1123, section 2.1)."""
-    return len(text) <= LONGEST_OBJECT_NAME and OBJECT_NAME.fullmatch(text) is not None
+RECORD_OPTIONS = ("--nr", "--arch", "--ip", *(f"--a{index}" for index in range(6)))
+# Options that only a bundle has, which scf(1) describes.
+OF_BUNDLES = ("--architectures", "--reading", "--total-limit", "--nr-from", "--nr-to", "--left-out")
+# The options of the program's commands, but for those that give a record.
+OF_PROGRAM = {
+    "answers": ("--native", "--examples", "--limit", "--architectures", "--reading", "--nr-from", "--nr-to"),
+    "ask": ("--architectures", "--reading"), "asm": (), "check": (), "dis": (), "decide": (), "run": ("--path",),
+    "compile": ("--architectures", "--reading", "--left-out"),
+    "compare": ("--native", "--calls", "--no-more", "--no-less", "--disposition", "--limit", "--splits", "--beside",
+                *OF_BUNDLES[:-1])}
+# Options of tools that say which of the program's commands it is, or have no part in it.
+WITHOUT_WORDS = ("--all", "--as", "--color", "--plain", "--regions", "--steps", "--table")
+# The commands that also take one of the files of a bundle alone.
+OF_ONE_FILE = ("answers", "ask", "compile", "decide")
 
 
 def _object_name(text: str) -> str:
-    """The name of an object of Kubernetes."""
-    if not is_object_name(text):
+    """A name of Kubernetes' objects (RFC 1123, section 2.1)."""
+    if len(text) > LONGEST_OBJECT_NAME or not OBJECT_NAME.fullmatch(text):
         raise argparse.ArgumentTypeError(f"'{text}' isn't a name of small letters, digits, '-' and '.'")
     return text
 
@@ -51,7 +64,9 @@ def _object_name(text: str) -> str:
 # The options and arguments that several tools take.
 SHARED: dict[str, dict[str, Any]] = {
     "--arch": {"metavar": "ARCH", "help": ARCH_HELP.format("", "")},
-    **{name: {"action": "store_true", "help": argparse.SUPPRESS} for name in ("--architectures", "--left-out")},
+    # (`--all` is the old name of other options, which stays for scripts)
+    **{name: {"action": "store_true", "help": argparse.SUPPRESS}
+       for name in ("--all", "--architectures", "--left-out")},
     **{name: {"metavar": "N", "help": argparse.SUPPRESS}
        for name in ("--nr-from", "--nr-to", "--reading", "--total-limit")},
     "--as": {"dest": "kind", "help": "what the input is, whatever it looks like"},
@@ -106,6 +121,18 @@ def seconds(text: str) -> float:
         raise argparse.ArgumentTypeError(f"'{text}' isn't a number of seconds") from None
 
 
+def _is_bundle() -> bool:
+    """Whether standard input is a bundle, which it holds again afterwards; or can't be read, which the program says."""
+    try:
+        data = inputs.read_input("-", "bundle")
+    except program.ToolError:
+        return True
+    file = client.memory_file(data)
+    os.dup2(file, 0)
+    os.close(file)
+    return not data or len(data) > bundles.LONGEST_BUNDLE or bundles.BEGINNING.match(data) is not None
+
+
 class Ending(argparse.Action):
     """An option that has the tool print something and end."""
 
@@ -113,9 +140,9 @@ class Ending(argparse.Action):
         super().__init__(option_strings, dest, nargs=0, default=argparse.SUPPRESS, **shown)
         self.put = put
 
-    def __call__(self, *_: Any) -> None:
+    def __call__(self, parser: argparse.ArgumentParser, *_: Any) -> None:
         self.put()
-        program.finish(program.SUCCESS)
+        parser.exit()
 
 
 class Formatter(argparse.HelpFormatter):
@@ -134,16 +161,17 @@ class Parser(argparse.ArgumentParser):
     def __init__(self, doc: str, needs: str = "", command: str | Callable[[Any], str | None] | None = None):
         self.command, self.record_words = command, lambda options: []
         self.called = commands.name_at(sys.argv[0])
+        # what the tool is the same as, if it is called by another name: a command and words
+        self.alias = commands.ALIASES.get(self.called or "", "").split()
         text, _, examples = doc.partition("\nExamples:\n")
         (summary, usage, *paragraphs), name = text.split("\n\n"), output.escaped(program.name())
-        if self.called in commands.ALIASES:
+        if self.alias:
             summary = f"{commands.same_as(self.called).capitalize()}. {summary}"
         statuses = [f"{text} {OTHER_STATUSES}" for text in paragraphs
                     if text.startswith(("Exit status:", "The exit status is"))]
         # (a percent sign would be argparse's)
         usage = re.sub(r"(?m)^    (?:scf )?[\w/-]+", lambda _: f"    {name}", usage)
-        command = commands.ALIASES.get(self.called or "", "").split()[:1]
-        longer = " " * sum(len(self.called or "") - len(word) for word in command)
+        longer = " " * sum(len(self.called or "") - len(command) for command in self.alias[:1])
         usage = re.sub("(?m)^   (?=( {5})?)", lambda match: " " * len("usage:") + longer * bool(match[1]), usage)
         # (with a fixed width no tool asks the terminal for it at the start)
         super().__init__(prog=name, usage=usage.strip().replace("%", "%%"), description=summary,
@@ -159,22 +187,63 @@ class Parser(argparse.ArgumentParser):
                           help="whether verdicts are coloured [default: auto, at a terminal unless NO_COLOR is set]")
 
     def parse_args(self, given: Any = None, namespace: Any = None) -> Any:
-        given = [*commands.words_before(self.called), *(sys.argv[1:] if given is None else given)]
-        for argument in self._actions if self.command is not None else ():
+        before = (word for word in self.alias[1:] if not word.endswith(":"))
+        given = [*before, *(sys.argv[1:] if given is None else given)]
+        files = [argument for argument in self._actions if not argument.option_strings]
+        for argument in files if self.command is not None else ():
             # (argparse would ask for files)
-            argument.required = argument.required and bool(argument.option_strings)
+            argument.required = False
         options = super().parse_args(given, namespace)
         prefix = commands.before_inputs(self.called)
-        for argument in self._actions if prefix else ():
-            if not argument.option_strings:
-                setattr(options, argument.dest, [prefix + name for name in getattr(options, argument.dest)])
+        for argument in files if prefix else ():
+            setattr(options, argument.dest, [prefix + name for name in getattr(options, argument.dest)])
         output.color = options.color
         texts = {name: getattr(options, name, None) for name in client.LIMIT_OPTIONS}
         client.limits = {name: text for name, text in texts.items() if text is not None}
         if self.command is not None and getattr(options, "pid", None) is None:
             self.command = self.command if isinstance(self.command, str) else self.command(options)
-            standard_input.take(self, options)
+            self.take_standard_input(options, files)
         return options
+
+    def given_options(self, options: Any) -> dict[str, list[str]]:
+        """The options of a command line, each with its values."""
+        given = {}
+        for action in self._actions:
+            value = getattr(options, action.dest, None)
+            if action.option_strings and value not in (None, action.default) and action.const in (None, value):
+                values = [] if action.nargs == 0 else value if isinstance(value, list) else [value]
+                given[action.option_strings[-1]] = values
+        return given
+
+    def program_words(self, options: Any) -> list[str] | None:
+        """The program's words for a command line, None if it has no such."""
+        words = []
+        for flag, values in self.given_options(options).items():
+            if flag in OF_PROGRAM[self.command] and len(values) < 2:
+                words += [f"{flag}={values[0]}" if values else flag]
+            elif flag not in (*RECORD_OPTIONS, *WITHOUT_WORDS):
+                return None
+        record = self.record_words(options)
+        return None if record is None else [*words, *record]
+
+    def take_standard_input(self, options: Any, files: list[argparse.Action]) -> None:
+        """If no file is given, becomes the program, or has the tool take standard input as the file."""
+        missing = [action for action in files if getattr(options, action.dest) in (None, [])]
+        if not missing:
+            for flag in self.given_options(options):
+                if flag in OF_BUNDLES:
+                    self.error(f"{flag} goes with a bundle on standard input, and not with files")
+            return
+        takes_input = self.command is not None and not os.isatty(0)
+        words = self.program_words(options) if takes_input and len(missing) == len(files) else None
+        if words is not None and (self.command not in OF_ONE_FILE or _is_bundle()):
+            if self.command in ("asm", "compile"):
+                self.keep_off_terminal()
+            client.become([self.command, *words])
+        if len(files) > 1 or not takes_input:
+            self.error(f"the following arguments are required: {', '.join(action.metavar for action in missing)}")
+        setattr(options, files[0].dest, "-" if files[0].nargs is None else ["-"])
+        output.has_notes, client.keeps_statuses = False, True
 
     def error(self, message: str) -> NoReturn:
         try:
@@ -196,21 +265,19 @@ class Parser(argparse.ArgumentParser):
 
     def print_help(self, file: Any = None, is_short: bool = False) -> None:
         """Prints the help like any other output: on request with few options."""
-        text = "" if is_short else self.format_help()
+        formatter = self._get_formatter()
         if is_short:
             shown_actions = [action for action in self._actions if action.help != argparse.SUPPRESS
                              and not {"-h", "--help"}.union(COMMON).intersection(action.option_strings)]
             files, options = ([action for action in shown_actions if bool(action.option_strings) == is_option]
                               for is_option in (False, True))
-            formatter = self._get_formatter()
             formatter.add_usage(self.usage, self._actions, [])
             formatter.add_text(self.description)
             formatter.start_section("options")
             formatter.add_arguments([*files, *options[:MOST_IN_SHORT]])
             formatter.end_section()
             formatter.add_text(f"{self.prog} --help has all.")
-            text = formatter.format_help()
-        output.put(text)
+        output.put((formatter if is_short else self).format_help())
         if self.examples:
             output.put("".join(["\nexamples:\n", *(f"  {example}\n" for example in self.examples)]))
 

@@ -81,7 +81,7 @@ def read_words():
     group.add_argument("--core", metavar="FILE", help="take the syscall from a core; - is standard input")
     parser.add_argument("--every", action="store_true",
                         help="show every denied syscall of a strace log, not the most telling ones alone")
-    parser.add_argument("--all", dest="every", action="store_true", help=words.ITS_OLD_NAME)
+    parser.add("--all", dest="every")
     parser.add("--limit", "--splits", "--native", "--table", "--caps", "--json")
     runtimes.add_option(parser, is_sandboxes=True)
     parser.add_argument("words", metavar="LINE|PROFILE|FILTER", nargs="*",
