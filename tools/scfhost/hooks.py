@@ -320,7 +320,7 @@ class Examination:
         except child.Late:
             pass
         except child.Died as died:
-            finding = unknown(died.status, self.seconds)
+            finding = unknown(died.args[0], self.seconds)
         except child.Interrupted as came:
             came.end_tool()
         except OSError as error:

@@ -78,7 +78,7 @@ def look(kernel: Kernel, listed: Callable[[], dict[int, int]], patience: float, 
         raise Unreadable(f"the threads couldn't be read within {patience:g} seconds{why}; all stopped threads "
                          f"continue") from late
     except child.Died as died:
-        raise Unreadable(str(died)) from died
+        raise Unreadable("the inspecting process ended without a result") from died
 
 
 def process_of(kernel: Kernel, number: int) -> int:

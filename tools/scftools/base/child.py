@@ -9,9 +9,9 @@ from __future__ import annotations
 
 # (the module signal makes enums of its constants)
 import _signal as signal
+import binascii
 import os
 import select
-import struct
 import time
 from collections.abc import Callable, Iterable, Iterator, Sequence
 
@@ -26,8 +26,6 @@ ENDING = (signal.SIGHUP, signal.SIGINT, signal.SIGQUIT, signal.SIGTERM)
 # In seconds: how often the tool looks for signals while it waits for the child, and how long a child may take to end by
 # one; how much later than the tool the child's own timer ends it, and how long a child that was killed is waited for.
 SIGNAL_PAUSE, TO_END, TIMER_DELAY, LAST_WAIT = 0.05, 1.0, 0.5, 0.2
-# The length of a value, which a child writes before it.
-LENGTH = struct.Struct("<Q")
 # Of a child that isn't believed: the most bytes of its address space, and of what it answers, in a line and in all; how
 # long it may take, in seconds; and the user who has no rights (user_namespaces(7)).
 MEMORY, MOST_OF_LINE, MOST_OF_ANSWER, LONGEST, NOBODY = 256 << 20, 5 << 20, 24 << 20, 10.0, 65534
@@ -46,12 +44,12 @@ class Late(Exception):
     """The child didn't end in time, and was killed."""
 
 
-class Died(Exception):
-    """The child ended without a result: `status` is its status, below 0 for a signal, None if that isn't known."""
+class Lost(Exception):
+    """A child ended without all of its answers, and why."""
 
-    def __init__(self, status: int | None) -> None:
-        super().__init__("the inspecting process ended without a result")
-        self.status = status
+
+class Died(Exception):
+    """The child ended without a result: its status, below 0 for a signal, None if that isn't known."""
 
 
 def look_for_signals() -> None:
@@ -69,26 +67,18 @@ def run_in_child(work: Callable[..., Any], seconds: float,
     import pickle  # pylint: disable=import-outside-toplevel
 
     ended: list[tuple[bool, Any]] = []
-    pending = bytearray()
 
-    def take(piece: bytes) -> float | None:
-        seconds = None
-        pending.extend(piece)
-        while len(pending) >= LENGTH.size and len(pending) >= LENGTH.size + LENGTH.unpack_from(pending)[0]:
-            end = LENGTH.size + LENGTH.unpack_from(pending)[0]
-            is_well, value = pickle.loads(pending[LENGTH.size:end])
-            del pending[:end]
-            if is_well is None and receive is not None:
-                seconds = receive(value) or seconds
-            else:
-                ended.append((is_well, value))
-        return seconds
+    def take(line: bytes) -> float | None:
+        is_well, value = pickle.loads(binascii.a2b_base64(line))
+        if is_well is None and receive is not None:
+            return receive(value)
+        ended.append((is_well, value))
+        return None
 
-    def write(file: int) -> None:
+    def write(put: Callable[[bytes], object]) -> None:
         def send(is_well: bool | None, value: object) -> None:
             """Sends the result, an exception, or with None another value."""
-            data = pickle.dumps((is_well, value))
-            write_all(file, LENGTH.pack(len(data)) + data)
+            put(binascii.b2a_base64(pickle.dumps((is_well, value))))
 
         try:
             result = True, work() if receive is None else work(lambda value: send(None, value))
@@ -105,10 +95,12 @@ def run_in_child(work: Callable[..., Any], seconds: float,
     return result
 
 
-def read_child(write: Callable[[int], object], seconds: float, take: Callable[[bytes], float | None]) -> int | None:
-    """Has a function write into a file in a child process, and takes what it wrote as soon as it is there. Where `take`
-    returns seconds, the child has these from then on, and none if they are 0. The child has a process group of its own,
-    which is killed at the end: its status, below 0 for a signal, None if that isn't known. Raises Late."""
+def read_child(write: Callable[[Callable[[bytes], object]], object], seconds: float,
+               take: Callable[[bytes], float | None], most: float = float("inf")) -> int | None:
+    """Has a function write lines in a child process, and takes each as soon as it is there. Where `take` returns
+    seconds, the child has these from then on, and none if they are 0. The child has a process group of its own, which
+    is killed at the end: its status, below 0 for a signal, None if that isn't known. Raises Late, and Lost if a line
+    has more bytes than `most`."""
     until = time.monotonic() + seconds
     heeded = {number for number in ENDING if signal.getsignal(number) != signal.SIG_IGN}
     parent = os.getpid()
@@ -118,11 +110,11 @@ def read_child(write: Callable[[int], object], seconds: float, take: Callable[[b
         child = os.fork()
         if not child:
             os.close(ends[0])
-            _be_child(lambda: write(ends[1]), seconds, parent)
+            _be_child(lambda: write(lambda line: _write(ends[1], line)), seconds, parent)
         os.close(ends[1])
         signal.pthread_sigmask(signal.SIG_SETMASK, mask | heeded)
         try:
-            _take_output(child, ends[0], heeded - mask, until, take)
+            _take_lines(child, ends[0], heeded - mask, until, take, most)
         finally:
             os.close(ends[0])
             status = _end(child)
@@ -131,15 +123,17 @@ def read_child(write: Callable[[int], object], seconds: float, take: Callable[[b
     return status
 
 
-def write_all(file: int, data: bytes) -> None:
-    unsent = memoryview(data)
+def _write(file: int, line: bytes) -> None:
+    unsent = memoryview(line)
     while unsent:
         unsent = unsent[os.write(file, unsent):]
 
 
-def _take_output(child: int, file: int, heeded: set[int], until: float, take: Callable[[bytes], float | None]) -> None:
+def _take_lines(child: int, file: int, heeded: set[int], until: float, take: Callable[[bytes], float | None],
+                most: float) -> None:
     """Takes all that the child writes; signals that end this process are passed on to it, and it ends soon then."""
     late: Exception = Late()
+    pending = bytearray()
     while True:
         remaining = until - time.monotonic()
         if remaining <= 0:
@@ -148,11 +142,18 @@ def _take_output(child: int, file: int, heeded: set[int], until: float, take: Ca
             piece = os.read(file, 1 << 16)
             if not piece and isinstance(late, Interrupted):
                 raise late
-            seconds = take(piece) if piece else 0
-            if seconds == 0:
+            if not piece:
                 return
-            if seconds is not None and isinstance(late, Late):
-                until = time.monotonic() + seconds
+            pending += piece
+            *lines, pending = pending.split(b"\n") if b"\n" in piece else [pending]
+            if max(map(len, (*lines, pending))) > most:
+                raise Lost("it answers too much")
+            for line in lines:
+                seconds = take(line)
+                if seconds == 0:
+                    return
+                if seconds is not None and isinstance(late, Late):
+                    until = time.monotonic() + seconds
         came = signal.sigtimedwait(heeded, 0) if heeded else None
         if came:
             os.kill(child, came.si_signo)
@@ -206,10 +207,6 @@ Send = Callable[[object], object]
 Work = Callable[[Send, float], object]
 
 
-class Lost(Exception):
-    """A child ended without all of its answers, and why."""
-
-
 def become(user: int) -> None:
     """Takes the rights of a user for good: no group, no capability, and nobody else of that user may look inside."""
     import ctypes  # pylint: disable=import-outside-toplevel
@@ -229,7 +226,6 @@ class _Turns:
 
     def __init__(self, turns: Iterable[tuple[int, float]], receive: Callable[[int, Any], object]) -> None:
         self.turns, self.receive = iter(turns), receive
-        self.pending = bytearray()
         self.next()
 
     def next(self) -> None:
@@ -237,36 +233,26 @@ class _Turns:
         self.count = 0
         self.at, self.seconds = next(self.turns, (None, 0.0))
 
-    def take(self, piece: bytes) -> float | None:
-        """Receives what is whole; the seconds of what comes next, if something came to its end."""
+    def take(self, line: bytes) -> float | None:
+        """Receives a value; the seconds of what comes next, if something came to its end."""
         import json  # pylint: disable=import-outside-toplevel
 
-        self.pending.extend(piece)
-        *lines, last = self.pending.split(b"\n") if b"\n" in piece else [self.pending]
-        if lines:
-            self.pending = last
-        before = self.at
-        for line in lines:
-            self.check(len(line))
-            try:
-                value = json.loads(line)
-                if isinstance(value, str):
-                    raise Lost(value)
-                if value is None:
-                    self.next()
-                elif self.at is not None:
-                    self.receive(self.at, value)
-            except (ValueError, LookupError, TypeError, RecursionError) as error:
-                raise Lost("its answer isn't what it should be") from error
-            self.count += len(line)
-        self.check(len(self.pending))
-        return self.seconds if self.at != before else None
-
-    def check(self, length: int) -> None:
-        if length > MOST_OF_LINE or self.count + length > MOST_OF_ANSWER:
+        self.count += len(line)
+        if self.count > MOST_OF_ANSWER:
             raise Lost("it answers too much")
+        try:
+            value = json.loads(line)
+            if isinstance(value, str):
+                raise Lost(value)
+            if value is not None:
+                self.receive(self.at, value)
+                return None
+        except (ValueError, LookupError, TypeError, RecursionError) as error:
+            raise Lost("its answer isn't what it should be") from error
+        self.next()
+        return self.seconds
 
-    def work(self, begin: Callable[[], object], works: Sequence[Work], file: int) -> None:
+    def work(self, begin: Callable[[], object], works: Sequence[Work], put: Callable[[bytes], object]) -> None:
         """What the child does: it sends values, and at the end of each thing None, or a text that says why not."""
         import ctypes  # pylint: disable=import-outside-toplevel
         import json  # pylint: disable=import-outside-toplevel
@@ -274,7 +260,7 @@ class _Turns:
         import threading  # pylint: disable=import-outside-toplevel
 
         def send(value: object) -> None:
-            write_all(file, json.dumps(value).encode() + b"\n")
+            put(json.dumps(value).encode() + b"\n")
 
         # (else a few threads have all of the address space: each may take 8 MB for its stack, and 64 for malloc(3))
         threading.stack_size(THREAD_STACK)
@@ -303,9 +289,8 @@ def ask_each(works: Sequence[Work], turns: Iterable[tuple[int, float]], receive:
     taken, lost = _Turns(turns, receive), {}
     while taken.at is not None:
         why = "who looks at it was ended"
-        taken.pending.clear()
         try:
-            read_child(lambda file: taken.work(begin, works, file), taken.seconds, taken.take)
+            read_child(lambda put: taken.work(begin, works, put), taken.seconds, taken.take, MOST_OF_LINE)
         except Late:
             why = f"it takes longer than {taken.seconds:.2g} seconds"
         except Lost as error:

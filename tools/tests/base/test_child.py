@@ -27,8 +27,7 @@ class Child(Case):
                              (lambda: os.kill(os.getpid(), signal.SIGKILL), -signal.SIGKILL)):
             with self.assertRaises(child.Died) as caught:
                 child.run_in_child(work, 60)
-            self.assertEqual((caught.exception.status, str(caught.exception)),
-                             (status, "the inspecting process ended without a result"))
+            self.assertEqual(caught.exception.args, (status,))
 
     def test_who_receives_gives_the_time(self):
         """From a value on the child has so many seconds: here it sleeps beyond them, but not beyond those of before."""
