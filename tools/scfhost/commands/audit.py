@@ -54,28 +54,25 @@ BASELINE = "no-more:"
 
 def read_words():
     parser = words.Parser(__doc__, processes.NEEDS)
-    parser.add_argument("--expect", metavar="FILE", help="a resolved profile or a config.json that all should have")
-    parser.add_argument("--baseline", metavar="no-more:FILE", help="a resolved profile that no row may exceed")
-    parser.add_argument("--allow-unconfined", action="store_true",
-                        help="don't count what is unconfined by configuration")
+    parser.value("--expect", "FILE", "a resolved profile or a config.json that all should have")
+    parser.value("--baseline", "no-more:FILE", "a resolved profile that no row may exceed")
+    parser.flag("--allow-unconfined", "don't count what is unconfined by configuration")
     parser.add("--force")
-    parser.add_argument("--programs", action="store_true", help="list the programs without a configuration, too")
-    parser.add_argument("--runtime-root", metavar="FOLDER", action="append", default=[],
-                        help="where a runtime keeps its containers, as given to its own --root")
+    parser.flag("--programs", "list the programs without a configuration, too")
+    parser.value("--runtime-root", "FOLDER", "where a runtime keeps its containers, as given to its own --root",
+                 action="append", default=[])
     form = parser.add_mutually_exclusive_group()
     form.add_argument("--json", **words.SHARED["--json"])
     form.add_argument("--json-lines", action="store_true", help="print an object for each row, and one for the whole")
-    parser.add_argument("--prometheus", metavar="FILE", help="write metrics in Prometheus's text format")
-    parser.add_argument("--html", metavar="FILE", help="write a page of HTML")
-    parser.add_argument("--since", metavar="FILE", help="say what changed since an object that --json printed")
-    parser.add_argument("--watch", metavar="SECONDS", type=words.seconds, help="audit again and again, with this pause")
+    parser.value("--prometheus", "FILE", "write metrics in Prometheus's text format")
+    parser.value("--html", "FILE", "write a page of HTML")
+    parser.value("--since", "FILE", "say what changed since an object that --json printed")
+    parser.value("--watch", "SECONDS", "audit again and again, with this pause", type=words.seconds)
     parser.add("--native", "--limit", "--splits", "--table")
     given = parser.parse_args()
-    if given.baseline is not None and not given.baseline.startswith(BASELINE):
-        parser.error(f"--baseline takes {BASELINE}FILE")
-    if given.watch is not None and not 0.1 <= given.watch <= 86400:
-        parser.error("--watch takes 0.1 to 86400 seconds")
-
+    parser.reject((given.baseline is not None and not given.baseline.startswith(BASELINE),
+                   f"--baseline takes {BASELINE}FILE"),
+                  (given.watch is not None and not 0.1 <= given.watch <= 86400, "--watch takes 0.1 to 86400 seconds"))
     given.baseline = None if given.baseline is None else given.baseline[len(BASELINE):]
     parser.one_standard_input([given.expect, given.baseline, given.since, given.table])
     return given

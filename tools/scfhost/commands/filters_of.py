@@ -44,11 +44,11 @@ TRACING_OPTIONS = ("-f", "-v", "-e", f"trace={filter_loads.TRACED_CALLS}", "-e",
 
 def read_words():
     parser = words.Parser(__doc__, processes.NEEDS)
-    parser.add_argument("--thread", metavar="TID", help="only this thread of the process")
-    parser.add_argument("--log", metavar="LOG", help="the filters that this log of strace -f -v shows being loaded")
+    parser.value("--thread", "TID", "only this thread of the process")
+    parser.value("--log", "LOG", "the filters that this log of strace -f -v shows being loaded")
     parser.add("--force")
-    parser.add_argument("places", metavar="[PID] FOLDER", nargs="*",
-                        help="a process, or a thread of it; a folder, created if it doesn't exist, without *.bpf")
+    parser.value("places", "[PID] FOLDER",
+                 "a process, or a thread of it; a folder, created if it doesn't exist, without *.bpf", nargs="*")
     own_words, traced = tracing.split(sys.argv[1:])
     options = parser.parse_args(own_words)
     options.traced, places = traced, options.places
@@ -57,15 +57,14 @@ def read_words():
         places = [os.path.basename(options.traced[0]) + ".filters"]
     if is_running and any(places[:1]) and not places[0].isdigit():
         tracing.check_separated(parser, places, "filters-of")
-    if len(places) != 1 + is_running or options.traced and options.log is not None:
-        parser.error("give PID FOLDER, [FOLDER] -- PROGRAM, or --log LOG FOLDER")
+    parser.reject((len(places) != 1 + is_running or options.traced and options.log is not None,
+                   "give PID FOLDER, [FOLDER] -- PROGRAM, or --log LOG FOLDER"))
     options.folder = places[-1]
     options.pid = processes.number_in(places[0]) if is_running else None
     options.thread = None if options.thread is None else processes.number_in(options.thread)
-    if os.path.exists(options.folder) and not os.path.isdir(options.folder):
-        parser.error(f"'{options.folder}' isn't a folder")
-    if filters.saved_in(options.folder):
-        parser.error(f"the folder '{options.folder}' already has filters")
+    parser.reject((os.path.exists(options.folder) and not os.path.isdir(options.folder),
+                   f"'{options.folder}' isn't a folder"),
+                  (filters.saved_in(options.folder), f"the folder '{options.folder}' already has filters"))
     return options
 
 

@@ -57,30 +57,26 @@ def read_words():
     parser.add_argument("--policy", choices=tuple(RELATION_OF_POLICY), default="same",
                         help="whether each syscall is answered as the profile says, or none more permissively "
                              "[default: same]")
-    parser.add_argument("--kill", action="store_true",
-                        help="kill the container unless it is known to be confined, before the reason is reported")
+    parser.flag("--kill", "kill the container unless it is known to be confined, before the reason is reported")
     whose = parser.add_mutually_exclusive_group()
     runtimes.add_option(whose)
     whose.add_argument("--keep-first", **words.SHARED["--keep-first"])
-    parser.add_argument("--allow-unconfined", action="store_true",
-                        help="accept a container whose configuration has no profile")
-    parser.add_argument("--wait", metavar="SECONDS", type=words.seconds, default=1.0,
-                        help="how long to wait for a process to get a filter, at most 60 [default: 1]")
-    parser.add_argument("--deadline", metavar="SECONDS", type=words.seconds, default=hooks.DEADLINE,
-                        help="how long the check may take beyond --wait, at most "
-                             f"{hooks.DEADLINE * 10:g}; then it is undecided [default: {hooks.DEADLINE:g}]")
-    parser.add_argument("--dry-run", action="store_true",
-                        help="only report: end with status 0 and kill nothing, whatever is found")
+    parser.flag("--allow-unconfined", "accept a container whose configuration has no profile")
+    parser.value("--wait", "SECONDS", "how long to wait for a process to get a filter, at most 60 [default: 1]",
+                 type=words.seconds, default=1.0)
+    parser.value("--deadline", "SECONDS", "how long the check may take beyond --wait, at most "
+                 f"{hooks.DEADLINE * 10:g}; then it is undecided [default: {hooks.DEADLINE:g}]",
+                 type=words.seconds, default=hooks.DEADLINE)
+    parser.flag("--dry-run", "only report: end with status 0 and kill nothing, whatever is found")
     parser.add("--force", "--native", "--limit", "--splits")
     parser.add("--table", help="the syscall table [default: tables/x86_64.table]")
     parser.add("--json")
-    parser.add_argument("--print-hook", action="store_true", help="print a hooks.d file with the other options")
+    parser.flag("--print-hook", "print a hooks.d file with the other options")
     options = parser.parse_args()
-    for seconds, most in ((options.wait, MOST_SECONDS), (options.deadline, hooks.DEADLINE * 10)):
-        if not 0 <= seconds <= most:
-            parser.error(f"'{seconds}' isn't a number of seconds from 0 to {most:g}")
-    if options.table == "-":
-        parser.error("the table can't be '-': standard input is the container's state")
+    limits = (options.wait, MOST_SECONDS), (options.deadline, hooks.DEADLINE * 10)
+    parser.reject(*((not 0 <= seconds <= most, f"'{seconds}' isn't a number of seconds from 0 to {most:g}")
+                    for seconds, most in limits),
+                  (options.table == "-", "the table can't be '-': standard input is the container's state"))
     return options
 
 

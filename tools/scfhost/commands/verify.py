@@ -74,35 +74,33 @@ from ..machine import Snapshot
 def read_words():
     parser = words.Parser(__doc__, processes.NEEDS)
     parser.scope("x86-64 syscalls alone, whatever architectures the profile names")
-    parser.add_argument("--container", action="store_true", help="all processes in the container of PID")
+    parser.flag("--container", "all processes in the container of PID")
     parser.add("--all", dest="container")
     parser.add("--force")
     parser.relation()
     runtimes.add_options(parser, without_caps="the bounding set of PID")
     parser.add("--also", "--limit", "--splits", "--strict", "--table", "--verbose", "--json")
-    parser.add_argument("--user", metavar="UID", type=int, help="CONTAINER is one of this user's")
+    parser.value("--user", "UID", "CONTAINER is one of this user's", type=int)
     parser.add("pid", metavar="PID|CONTAINER", help="a process, or a thread of it; or the name of a container or the "
                                                     "beginning of its ID")
-    parser.add_argument("--beside", metavar="FOLDER", help="compare with the filters that filters-of wrote")
+    parser.value("--beside", "FOLDER", "compare with the filters that filters-of wrote")
     if not any(word.partition("=")[0] == "--beside" for word in sys.argv):
-        parser.add_argument("profile", metavar="PROFILE", nargs="?",
-                            help="a resolved profile, or a config.json; with --runtime also an engine's; - is standard "
-                                 "input [default: the container's own configuration]")
+        parser.value("profile", "PROFILE", "a resolved profile, or a config.json; with --runtime also an engine's; - "
+                     "is standard input [default: the container's own configuration]", nargs="?")
     options = parser.parse_args()
     options.pid = options.pid.removeprefix(inputs.PROCESS)
     options.name = None if not options.pid.strip("0123456789") else options.pid
-    if options.name is None and options.beside is None and options.profile is None:
-        parser.error("the following arguments are required: PROFILE")
-    if options.name is None and options.user is not None:
-        parser.error("--user goes with the name of a container")
-    if options.beside is not None:
-        options.profile = None
-        if options.runtime is not None or options.verbose or options.strict or options.also:
-            parser.error("--runtime, --verbose, --strict and --also speak of a profile, and --beside has none")
-    if options.also and options.scope == verdicts.NATIVE_SCOPE:
-        parser.error("--also is for other architectures' profiles, and --native takes one alone")
-    if options.runtime is None and runtimes.is_engines(options):
-        parser.error("--engine, --caps, --kernel, --arch-map and --ignore need --runtime")
+    options.profile = None if options.beside is not None else options.profile
+    parser.reject(
+        (options.name is None and options.beside is None and options.profile is None,
+         "the following arguments are required: PROFILE"),
+        (options.name is None and options.user is not None, "--user goes with the name of a container"),
+        (options.beside is not None and (options.runtime or options.verbose or options.strict or options.also),
+         "--runtime, --verbose, --strict and --also speak of a profile, and --beside has none"),
+        (options.also and options.scope == verdicts.NATIVE_SCOPE,
+         "--also is for other architectures' profiles, and --native takes one alone"),
+        (options.runtime is None and runtimes.is_engines(options),
+         "--engine, --caps, --kernel, --arch-map and --ignore need --runtime"))
     options.setting = runtimes.setting_of_words(options, parser)
     options.pid = processes.number_in(options.pid) if options.name is None else None
     parser.one_standard_input([options.profile, *options.also, options.table])

@@ -286,6 +286,20 @@ class Parser(argparse.ArgumentParser):
         for name in names:
             self.add_argument(name, **{**SHARED[name], **changed})
 
+    def flag(self, name: str, text: str) -> None:
+        """Adds an option without a value, and what is said of it."""
+        self.add_argument(name, action="store_true", help=text)
+
+    def value(self, name: str, metavar: str, text: str, **more: Any) -> None:
+        """Adds an option or argument, what its value is called, and what is said of it."""
+        self.add_argument(name, metavar=metavar, help=text, **more)
+
+    def reject(self, *rows: tuple[object, str]) -> None:
+        """Rejects a command line of which one of these is so, by the text beside it."""
+        for is_so, text in rows:
+            if is_so:
+                self.error(text)
+
     def one_of(self, dest: str, default: str | None, *flags: tuple[str, str, str]) -> None:
         """Adds flags that exclude each other, each with what it stands for and its help; but those without help."""
         group = self.add_mutually_exclusive_group()
@@ -306,10 +320,9 @@ class Parser(argparse.ArgumentParser):
 
     def keep_off_terminal(self) -> None:
         """Rejects to print a filter on a terminal."""
-        if sys.stdout is not None and sys.stdout.isatty():
-            self.error("a filter isn't text: redirect the output into a file")
+        self.reject((sys.stdout is not None and sys.stdout.isatty(),
+                     "a filter isn't text: redirect the output into a file"))
 
     def one_standard_input(self, names: Iterable[str | None]) -> None:
         """Rejects a command line that names standard input twice."""
-        if list(names).count("-") > 1:
-            self.error("only one input can be '-', standard input")
+        self.reject((list(names).count("-") > 1, "only one input can be '-', standard input"))

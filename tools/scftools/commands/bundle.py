@@ -28,13 +28,6 @@ from ..base import inputs, output, program
 from ..model import bundles
 
 
-def help_text():
-    """The tool's docstring, its usage first, under the name by which the tool was called."""
-    summary, usage, *paragraphs = __doc__.split("\n\n")
-    usage = usage.strip().replace("scf bundle", output.escaped(program.name()), 1)
-    return "\n\n".join([f"usage: {usage}", summary, *paragraphs])
-
-
 def parts_of(words):
     """The kinds and bytes of the parts, each file read once, so that a pipe has a length."""
     length = 0
@@ -51,25 +44,21 @@ def parts_of(words):
         yield kind, data
 
 
-def refuse(text):
-    raise program.ToolError(f"{text}; see --help")
-
-
 def main():
     words = sys.argv[1:]
+    wrong = [kind for kind in words[::2] if kind not in bundles.PART_KINDS]
     if words[:1] in (["--help"], ["-h"]):
-        output.put(help_text())
-        return program.SUCCESS
-    if words == ["--version"]:
+        # the docstring, its usage first, under the name by which the tool was called
+        summary, usage, *paragraphs = __doc__.split("\n\n")
+        usage = usage.strip().replace("scf bundle", output.escaped(program.name()), 1)
+        output.put("\n\n".join([f"usage: {usage}", summary, *paragraphs]))
+    elif words == ["--version"]:
         output.put_line(program.version())
-        return program.SUCCESS
-    if not words:
-        refuse("no KIND and no FILE given")
-    if len(words) % 2:
-        refuse("a KIND without a FILE")
-    for kind in words[::2]:
-        if kind not in bundles.PART_KINDS:
-            refuse(f"'{kind}' isn't a KIND (filter, profile, beside, beside-profile, table, table-x86 .., "
-                   "stub-table .., counts-table ..)")
-    output.put(bundles.bundle(list(parts_of(words))))
+    elif not words or len(words) % 2:
+        raise program.ToolError(f"{'a KIND without a FILE' if words else 'no KIND and no FILE given'}; see --help")
+    elif wrong:
+        raise program.ToolError(f"'{wrong[0]}' isn't a KIND (filter, profile, beside, beside-profile, table, "
+                                "table-x86 .., stub-table .., counts-table ..); see --help")
+    else:
+        output.put(bundles.bundle(list(parts_of(words))))
     return program.SUCCESS

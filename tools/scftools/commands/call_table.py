@@ -23,6 +23,8 @@ Examples:
     scf call-table --comment 'of this kernel' - <unistd_64.h
     scf call-table unistd_64.h | scf compile --table - profile.json >profile.bpf
 """
+import re
+
 from ..base import inputs, output, program
 from ..model import architectures
 from ..cli import words
@@ -31,18 +33,17 @@ from ..forms import number_sources
 
 def read_words():
     parser = words.Parser(__doc__)
-    parser.add_argument("--comment", metavar="TEXT", help="begin with the line `# TEXT`")
-    parser.add_argument("--libseccomp", action="store_true", help="the syscalls that the installed libseccomp knows")
-    parser.add_argument("--architecture", metavar="NAME", choices=tuple(architectures.BY_SOURCE), default="x86_64",
-                        help=f"whose syscalls the header has: {', '.join(architectures.BY_SOURCE)} [default: x86_64]")
-    parser.add_argument("headers", metavar="HEADER", nargs="*",
-                        help="a kernel header, or syscall_64.tbl; - is standard input [default: -]")
+    parser.value("--comment", "TEXT", "begin with the line `# TEXT`")
+    parser.flag("--libseccomp", "the syscalls that the installed libseccomp knows")
+    parser.value("--architecture", "NAME",
+                 f"whose syscalls the header has: {', '.join(architectures.BY_SOURCE)} [default: x86_64]",
+                 choices=tuple(architectures.BY_SOURCE), default="x86_64")
+    parser.value("headers", "HEADER", "a kernel header, or syscall_64.tbl; - is standard input [default: -]", nargs="*")
     options = parser.parse_args()
     parser.one_standard_input(options.headers)
-    if options.comment and any(mark in options.comment for mark in "\n\r"):
-        parser.error("the comment has more than one line")
-    if options.libseccomp and (options.headers or options.architecture != "x86_64"):
-        parser.error("--libseccomp takes no HEADER, and prints x86-64's syscalls")
+    parser.reject((options.comment and re.search("[\n\r]", options.comment), "the comment has more than one line"),
+                  (options.libseccomp and (options.headers or options.architecture != "x86_64"),
+                   "--libseccomp takes no HEADER, and prints x86-64's syscalls"))
     return options
 
 

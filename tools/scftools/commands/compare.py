@@ -74,22 +74,19 @@ def read_words():
                "--html")
     parser.add("--architectures", "--reading", "--total-limit", "--nr-from", "--nr-to")
     runtimes.add_option(parser, is_sandboxes=True)
-    parser.add_argument("--beside", metavar="FILTER", nargs="*",
-                        help="these filters are WANTED, oldest first, and all others ACTUAL")
+    parser.value("--beside", "FILTER", "these filters are WANTED, oldest first, and all others ACTUAL", nargs="*")
     parser.add("--also")
     parser.add("filters", metavar="ACTUAL", help=ACTUAL)
     if not any(word.partition("=")[0] == "--beside" for word in sys.argv):
-        parser.add_argument("profile", metavar="WANTED", help="a profile or a filter, pid:N or unit:NAME; - is "
-                                                              "standard input")
+        parser.value("profile", "WANTED", "a profile or a filter, pid:N or unit:NAME; - is standard input")
     options = parser.parse_args()
-    if options.beside == []:
-        parser.error("argument --beside: expected at least one argument")
-    if options.also and options.scope in (verdicts.NATIVE_SCOPE, verdicts.ALL):
-        parser.error("--also is for other architectures' profiles, and --native and --all take one alone")
-    if options.force and not any(map(operands.is_process, options.filters)):
-        parser.error("--force needs a process")
-    if options.html and any(map(operands.is_process, options.filters)):
-        parser.error("--html shows one comparison, and a process may have several stacks")
+    has_process = any(map(operands.is_process, options.filters))
+    parser.reject(
+        (options.beside == [], "argument --beside: expected at least one argument"),
+        (options.also and options.scope in (verdicts.NATIVE_SCOPE, verdicts.ALL),
+         "--also is for other architectures' profiles, and --native and --all take one alone"),
+        (options.force and not has_process, "--force needs a process"),
+        (options.html and has_process, "--html shows one comparison, and a process may have several stacks"))
     others = [options.profile, *options.also] if options.beside is None else options.beside
     parser.one_standard_input([*options.filters, *others, options.table])
     runtimes.check_words(options)
@@ -115,10 +112,8 @@ def main():
     actual = [actual] if isinstance(actual, Filter) else actual
     wanted, table = wanted_of(options), tables.read_table(options.table)
     if not any(isinstance(side, ProfileInput) for side in (actual, *wanted)):
-        for name in ("--caps", "--verbose", "--strict", "--runtime", "--machine", "--also"):
-            if getattr(options, name[2:]):
-                parser.error(f"{name} speaks of a profile, and no side is one")
-
+        parser.reject(*((getattr(options, name), f"--{name} speaks of a profile, and no side is one")
+                        for name in ("caps", "verbose", "strict", "runtime", "machine", "also")))
     elsewhere = profiles.elsewhere_of([each.data for each in wanted if isinstance(each, ProfileInput)]) or [()]
 
     def judge(side):

@@ -80,11 +80,10 @@ def main():
     parser = words.Parser(__doc__, command=lambda options: "compile" if options.kind is None else "asm")
     parser.add("--native", "--strict", "--json", "--table", "--caps", "--machine")
     parser.add("--as", choices=("assembler",))
-    parser.add_argument("--hot", metavar="FILE",
-                        help="how often syscalls are called, as `scf needs --counts` prints it; - is standard input")
-    parser.add_argument("--no-bitmap", action="store_true",
-                        help="count syscalls that are always allowed, too: for Linux before 5.11, which runs the "
-                             "filter")
+    parser.value("--hot", "FILE",
+                 "how often syscalls are called, as `scf needs --counts` prints it; - is standard input")
+    parser.flag("--no-bitmap",
+                "count syscalls that are always allowed, too: for Linux before 5.11, which runs the filter")
     parser.add("--architectures", "--reading", "--left-out", "profile")
     runtimes.add_option(parser, is_sandboxes=True)
     options = parser.parse_args()

@@ -62,25 +62,21 @@ def read_words():
     parser = words.Parser(__doc__, command=lambda options: "run" if options.steps else
                           "ask" if options.kind is not None else "decide")
     decisions.add_options(parser)
-    parser.add_argument("--expect", metavar="ROWS",
-                        help="check rows of syscalls, each with `=` and its answer; - is standard input")
-    parser.add_argument("--steps", action="store_true", help="say how many instructions of one filter ran")
-    parser.add_argument("--path", action="store_true", help="with --steps, print the indexes of these instructions")
+    parser.value("--expect", "ROWS", "check rows of syscalls, each with `=` and its answer; - is standard input")
+    parser.flag("--steps", "say how many instructions of one filter ran")
+    parser.flag("--path", "with --steps, print the indexes of these instructions")
     parser.add("--as", choices=("profile",))
     parser.add("--native", "--strict", "--caps", "--machine", "--force", "--architectures", "--reading")
     runtimes.add_option(parser, is_sandboxes=True)
-    parser.add_argument("words", metavar="X", nargs="+",
-                        help="a filter, a profile, pid:N or unit:NAME; - is standard input; then the syscall and its "
-                             "arguments, or more filters")
+    parser.value("words", "X", "a filter, a profile, pid:N or unit:NAME; - is standard input; then the syscall and its "
+                               "arguments, or more filters", nargs="+")
     options = parser.parse_args()
-    if options.expect is not None and (options.nr or options.calls_from):
-        parser.error("--expect takes the syscalls from its rows: leave out --nr and --calls-from")
-    if options.path and not options.steps:
-        parser.error("--path goes with --steps")
     if not options.nr and options.calls_from is None and options.expect is None:
         options.words, options.call = options.words[:1], options.words[1:]
-    if options.steps and len(options.words) > 1:
-        parser.error("--steps counts the instructions of one filter")
+    parser.reject((options.expect is not None and (options.nr or options.calls_from),
+                   "--expect takes the syscalls from its rows: leave out --nr and --calls-from"),
+                  (options.path and not options.steps, "--path goes with --steps"),
+                  (options.steps and len(options.words) > 1, "--steps counts the instructions of one filter"))
     parser.one_standard_input([*options.words, *options.call, options.table, options.calls_from, options.expect])
     return options
 

@@ -45,28 +45,23 @@ from ..report import blocks, changes, compare
 from ..report.compare_output import Judgement
 
 
-OPERAND = "a filter or a profile, pid:N or unit:NAME; - is standard input"
-
-
 def read_words():
     parser = words.Parser(__doc__)
     parser.scope("x86-64 syscalls alone, whatever architectures a profile names")
     parser.relation("only check that NEW is nowhere {} than OLD", words.OF_DISPOSITION)
     runtimes.add_options(parser, is_sandboxes=True)
-    parser.add_argument("--keep-first", action="store_true",
-                        help="OLD and NEW are an engine's own: if two entries without conditions answer a syscall, "
-                             "keep the first")
-    parser.add_argument("--profiles", action="store_true", help="read both as profiles, whatever they look like")
+    parser.flag("--keep-first", "OLD and NEW are an engine's own: if two entries without conditions answer a syscall, "
+                                "keep the first")
+    parser.flag("--profiles", "read both as profiles, whatever they look like")
     parser.add("--machine", "--limit", "--splits", "--table", "--force", "--json")
-    parser.add_argument("old", metavar="OLD", help=OPERAND)
-    parser.add_argument("new", metavar="NEW", help="what is judged by it")
+    parser.value("old", "OLD", "a filter or a profile, pid:N or unit:NAME; - is standard input")
+    parser.value("new", "NEW", "what is judged by it")
     options = parser.parse_args()
-    if options.runtime == profiles.SANDBOX and (options.keep_first or runtimes.is_engines(options)):
-        parser.error("--runtime sandbox reads no engine's profile")
-    if options.force and not operands.is_process(options.new):
-        parser.error("--force needs a process as NEW")
+    is_engines = options.keep_first or runtimes.is_engines(options)
+    parser.reject((options.runtime == profiles.SANDBOX and is_engines, "--runtime sandbox reads no engine's profile"),
+                  (options.force and not operands.is_process(options.new), "--force needs a process as NEW"))
     parser.one_standard_input([options.old, options.new, options.table])
-    options.is_made = options.runtime in runtimes.RUNTIMES or options.keep_first or runtimes.is_engines(options)
+    options.is_made = options.runtime in runtimes.RUNTIMES or is_engines
     options.setting = runtimes.setting_of_words(options, parser)
     return parser, options
 

@@ -30,7 +30,7 @@ from ..logs import meanings
 def main():
     parser = words.Parser(__doc__)
     parser.add("--table", help="the syscall table [default: tables/x86_64.table]")
-    parser.add_argument("line", metavar="LINE", nargs="*", help="a line [default: those of standard input]")
+    parser.value("line", "LINE", "a line [default: those of standard input]", nargs="*")
     options = parser.parse_args()
     table = tables.read_table(options.table)
     if options.line:
@@ -43,8 +43,7 @@ def main():
             raise program.ToolError("scf prints no such line, and has no such exit status: see scf help")
         output.put_lines(sentences)
         return program.SUCCESS
-    if os.isatty(0):
-        parser.error("the following arguments are required: LINE")
+    parser.reject((os.isatty(0), "the following arguments are required: LINE"))
     is_explained = False
     for line in inputs.read_whole("-", "text").decode("utf-8", "surrogateescape").splitlines():
         sentences = meanings.meaning_of(line, table)

@@ -88,22 +88,20 @@ def of_stack(stack, options, table, query):
 
 def main():
     parser = words.Parser(__doc__, command=lambda options: "dis" if options.plain else None)
-    parser.add_argument("--nr", metavar="NUMBER|NAME",
-                        help="mark the instructions that run on this syscall, by number or by name [default: 0]")
+    parser.value("--nr", "NUMBER|NAME",
+                 "mark the instructions that run on this syscall, by number or by name [default: 0]")
     decisions.add_numbers(parser)
-    parser.add_argument("--plain", action="store_true", help="print the instructions alone, as scf does")
-    parser.add_argument("--dot", action="store_true", help="print the control flow as a graph for graphviz")
+    parser.flag("--plain", "print the instructions alone, as scf does")
+    parser.flag("--dot", "print the control flow as a graph for graphviz")
     parser.add("--json", "--table", "--force", "filter")
     options = parser.parse_args()
     parser.one_standard_input([options.filter, options.table])
-    if options.plain + options.dot + options.json > 1:
-        parser.error("give one of --plain, --dot and --json")
+    parser.reject((options.plain + options.dot + options.json > 1, "give one of --plain, --dot and --json"))
     table = tables.read_table(options.table)
     numbering, query = decisions.Numbering(table, options.arch), None
     fields = decisions.rest_of(options, numbering)
     if options.nr is not None or fields:
         query = decisions.Query((("nr", numbering.number_of("0" if options.nr is None else options.nr)), *fields))
     given = operands.read_stacks([options.filter], options)
-    if options.plain and query is not None:
-        parser.error("--plain marks no instructions")
+    parser.reject((options.plain and query is not None, "--plain marks no instructions"))
     return put_blocks(given, lambda stack: of_stack(stack, options, table, query), options.json)

@@ -92,27 +92,23 @@ def read_words():
     parser = words.Parser(__doc__)
     parser.add_argument("--profile", dest="least", action="store_true",
                         help="print the smallest profile that allows the syscalls of the log")
-    parser.add_argument("--widen", action="store_true",
-                        help="print the smallest profile with what the log needs and PROFILE denies")
-    parser.add_argument("--counts", action="store_true",
-                        help="print how often the log has each syscall, for `scf compile --hot`")
+    parser.flag("--widen", "print the smallest profile with what the log needs and PROFILE denies")
+    parser.flag("--counts", "print how often the log has each syscall, for `scf compile --hot`")
     parser.add("--arch", help=words.ARCH_HELP.format(" of a log that doesn't say it",
                                                      ", or the first that PROFILE lists"))
     parser.add("--kubernetes", "--limit", "--splits")
     parser.add("--table", help=words.OWN_TABLE)
     parser.add("--caps", "--json")
     parser.add_argument("--runtime", choices=tuple(runtimes.OWN_CALLS), help=requirements.RUNTIME_HELP)
-    parser.add_argument("logs", metavar="LOG", nargs="+",
-                        help="the output of strace -f, perf trace, bpftrace, sysdig or auditd; - is standard input")
+    parser.value("logs", "LOG", "the output of strace -f, perf trace, bpftrace, sysdig or auditd; - is standard input",
+                 nargs="+")
     parser.add("profile")
     options = parser.parse_args()
     options.least = options.least or options.widen
-    if options.kubernetes is not None and not options.least:
-        parser.error("--kubernetes goes with --profile")
-    if options.least and options.json:
-        parser.error("--profile prints JSON already: leave out --json")
-    if options.counts and (options.least or options.json):
-        parser.error("--counts goes neither with --profile nor with --json")
+    parser.reject((options.kubernetes is not None and not options.least, "--kubernetes goes with --profile"),
+                  (options.least and options.json, "--profile prints JSON already: leave out --json"),
+                  (options.counts and (options.least or options.json),
+                   "--counts goes neither with --profile nor with --json"))
     parser.one_standard_input([*options.logs, options.profile, options.table])
     return options
 

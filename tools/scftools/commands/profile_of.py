@@ -120,7 +120,6 @@ from ..report.blocks import Block, of_threads, put_blocks
 # The options that each kind of input has alone.
 OF_FILTERS = ("arch", "limit", "splits", "table", "force")
 OF_ENGINES = ("engine", "caps", "machine", "kernel", "arch_map", "ignore", "keep_first", "multiplexed")
-OF_LISTS = ("errno", "unit_architectures", "log")
 
 
 def read_words():
@@ -133,26 +132,26 @@ def read_words():
     parser.add("--as", choices=("profile",))
     runtimes.add_options(parser)
     parser.add("--machine", "--keep-first")
-    parser.add_argument("--multiplexed", action="store_true",
-                        help="add the rules of socketcall and ipc that libseccomp makes for i386, ppc64le and mipsel")
-    parser.add_argument("--set", metavar="LIST", nargs="+", help="assignments of SystemCallFilter=, in order")
-    parser.add_argument("--errno", metavar="ERRNO", help="with --set: SystemCallErrorNumber= [default: kill]")
-    parser.add_argument("--architectures", dest="unit_architectures", metavar="LIST",
-                        help="with --set: SystemCallArchitectures= [default: none]")
-    parser.add_argument("--log", metavar="LIST", nargs="+", help="with --set: assignments of SystemCallLog=")
-    parser.add_argument("inputs", metavar="FILTER|PROFILE|unit:UNIT", nargs="*",
-                        help="filters, the oldest first, pid:N, an engine's profile, or a unit; - is standard input")
+    parser.flag("--multiplexed",
+                "add the rules of socketcall and ipc that libseccomp makes for i386, ppc64le and mipsel")
+    parser.value("--set", "LIST", "assignments of SystemCallFilter=, in order", nargs="+")
+    parser.value("--errno", "ERRNO", "with --set: SystemCallErrorNumber= [default: kill]")
+    parser.value("--architectures", "LIST", "with --set: SystemCallArchitectures= [default: none]",
+                 dest="unit_architectures")
+    parser.value("--log", "LIST", "with --set: assignments of SystemCallLog=", nargs="+")
+    parser.value("inputs", "FILTER|PROFILE|unit:UNIT",
+                 "filters, the oldest first, pid:N, an engine's profile, or a unit; - is standard input", nargs="*")
     options = parser.parse_args()
-    if bool(options.inputs) == (options.set is not None):
-        parser.error("give filters, a profile, pid:N or unit:UNIT, or --set and lists")
-    if options.set is None and any(getattr(options, name) is not None for name in OF_LISTS):
-        parser.error("--errno, --architectures and --log go with --set")
-    if len(options.inputs) > 1 and any(name.startswith(inputs.UNIT) for name in options.inputs):
-        parser.error("a unit stands alone")
-    if options.set is not None and options.arch is not None:
-        parser.error("--arch needs a unit: --set states the same for all architectures")
-    if options.json and options.kubernetes is not None:
-        parser.error("give either --json or --kubernetes")
+    is_of_lists = options.set is not None
+    parser.reject(
+        (bool(options.inputs) == is_of_lists, "give filters, a profile, pid:N or unit:UNIT, or --set and lists"),
+        (not is_of_lists and any(getattr(options, name) is not None for name in ("errno", "unit_architectures", "log")),
+         "--errno, --architectures and --log go with --set"),
+        (len(options.inputs) > 1 and any(name.startswith(inputs.UNIT) for name in options.inputs),
+         "a unit stands alone"),
+        (is_of_lists and options.arch is not None,
+         "--arch needs a unit: --set states the same for all architectures"),
+        (options.json and options.kubernetes is not None, "give either --json or --kubernetes"))
     options.setting = runtimes.setting_of_words(options, parser)
     parser.one_standard_input([*options.inputs, options.table])
     return options

@@ -42,24 +42,22 @@ RECORDING_OPTIONS = ("-f", "-n", "-e", "raw=all", "--quiet=attach")
 
 def read_words():
     parser = words.Parser(__doc__)
-    parser.add_argument("--profile", metavar="BASE",
-                        help="write the smallest profile that allows what was recorded, with BASE's default and "
-                             "architectures")
-    parser.add_argument("--widen", action="store_true", help="allow in it what was recorded and BASE denies")
+    parser.value("--profile", "BASE", "write the smallest profile that allows what was recorded, with BASE's default "
+                                      "and architectures")
+    parser.flag("--widen", "allow in it what was recorded and BASE denies")
     parser.add_argument("--runtime", choices=tuple(runtimes.OWN_CALLS), help=requirements.RUNTIME_HELP)
-    parser.add_argument("file", metavar="FILE", nargs="?",
-                        help="the log, or with --profile the new profile [default: PROGRAM.log or PROGRAM.json]")
+    parser.value("file", "FILE", "the log, or with --profile the new profile [default: PROGRAM.log or PROGRAM.json]",
+                 nargs="?")
     own_words, traced = tracing.split(sys.argv[1:])
     if not traced:
         tracing.check_separated(parser, own_words, "record")
     options = parser.parse_args(own_words)
-    if not traced:
-        parser.error("no program is given: it stands behind --")
-    if options.profile is None and (options.widen or options.runtime):
-        parser.error("--widen and --runtime go with --profile")
+    parser.reject((not traced, "no program is given: it stands behind --"),
+                  (options.profile is None and (options.widen or options.runtime),
+                   "--widen and --runtime go with --profile"),
+                  (options.profile is None and (options.file or "").endswith(".json"),
+                   f"'{options.file}' would get the log, not a profile: --profile BASE makes one"))
     options.traced = traced
-    if options.profile is None and (options.file or "").endswith(".json"):
-        parser.error(f"'{options.file}' would get the log, not a profile: --profile BASE makes one")
     if options.file is None:
         options.file = tracing.new_name(traced, ".log" if options.profile is None else ".json")
         program.say(f"writes {options.file}")

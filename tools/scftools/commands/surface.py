@@ -79,34 +79,32 @@ def read_words():
 
         needs = processes.NEEDS.replace("This needs", "A process needs", 1)
     parser = words.Parser(__doc__, needs, lambda options: "answers" if options.regions else None)
-    parser.add_argument("--regions", action="store_true", help="list everything that the filters answer")
-    parser.add_argument("--conditions", action="store_true",
-                        help="say which arguments get which answer, instead of examples")
-    parser.add_argument("--beside", metavar="OTHER", nargs="+", default=[],
-                        help="show the syscalls that differ under these filters, oldest first; stands last")
-    parser.add_argument("--pid", metavar="PID", help="the filters of this process, as pid:PID names them")
+    parser.flag("--regions", "list everything that the filters answer")
+    parser.flag("--conditions", "say which arguments get which answer, instead of examples")
+    parser.value("--beside", "OTHER", "show the syscalls that differ under these filters, oldest first; stands last",
+                 nargs="+", default=[])
+    parser.value("--pid", "PID", "the filters of this process, as pid:PID names them")
     parser.add("--arch")
     parser.add("--machine", help="the machine whose syscalls are looked at, and for whose containers an engine's "
                                  "profile is resolved [default: this one]")
-    parser.add_argument("--examples", action="store_true", help="show a call for each region, with its answer")
+    parser.flag("--examples", "show a call for each region, with its answer")
     parser.add("--force", "--limit", "--splits")
     parser.add("--table", help=words.OWN_TABLE)
     parser.add("--caps", "--json", "--html", "--architectures", "--nr-from", "--nr-to")
-    parser.add_argument("filters", metavar="FILTER", nargs="*",
-                        help="a filter, of several the oldest first, a profile, or pid:PID; - is standard input")
+    parser.value("filters", "FILTER",
+                 "a filter, of several the oldest first, a profile, or pid:PID; - is standard input", nargs="*")
     options = parser.parse_args()
     if options.pid is not None:
         from scfhost import processes  # pylint: disable=import-outside-toplevel
 
         options.filters.append(f"pid:{processes.number_in(options.pid)}")
-    if options.beside and (options.arch is not None or options.machine not in (None, "amd64")):
-        parser.error("give either --arch or --beside, which compares the syscalls of all architectures of this machine")
-    if options.regions and (options.conditions or options.beside or options.html):
-        parser.error("--regions goes without --conditions, --beside and --html")
-    if options.conditions and options.examples:
-        parser.error("give either --conditions or --examples")
-    if options.force and not any(map(operands.is_process, options.filters)):
-        parser.error("--force needs a process")
+    parser.reject(
+        (options.beside and (options.arch is not None or options.machine not in (None, "amd64")),
+         "give either --arch or --beside, which compares the syscalls of all architectures of this machine"),
+        (options.regions and (options.conditions or options.beside or options.html),
+         "--regions goes without --conditions, --beside and --html"),
+        (options.conditions and options.examples, "give either --conditions or --examples"),
+        (options.force and not any(map(operands.is_process, options.filters)), "--force needs a process"))
     parser.one_standard_input([*options.filters, *options.beside, options.table])
     return options
 

@@ -79,22 +79,19 @@ def read_words():
     group = parser.add_mutually_exclusive_group()
     group.add_argument("--pid", metavar="PID", help="take this process's records from the kernel's log and auditd's")
     group.add_argument("--core", metavar="FILE", help="take the syscall from a core; - is standard input")
-    parser.add_argument("--every", action="store_true",
-                        help="show every denied syscall of a strace log, not the most telling ones alone")
+    parser.flag("--every", "show every denied syscall of a strace log, not the most telling ones alone")
     parser.add("--all", dest="every")
     parser.add("--limit", "--splits", "--native", "--table", "--caps", "--json")
     runtimes.add_option(parser, is_sandboxes=True)
-    parser.add_argument("words", metavar="LINE|PROFILE|FILTER", nargs="*",
-                        help="without --pid and --core first what was logged, or - for standard input; then a profile "
-                             "and the filters of the process, oldest first")
+    parser.value("words", "LINE|PROFILE|FILTER", "without --pid and --core first what was logged, or - for standard "
+                 "input; then a profile and the filters of the process, oldest first", nargs="*")
     options = parser.parse_args()
     options.line = None
     if options.pid is None and options.core is None:
-        if not options.words:
-            parser.error("LINE is missing: what was logged, or - for standard input")
+        parser.reject((not options.words, "LINE is missing: what was logged, or - for standard input"))
         options.line, *options.words = options.words
-        if os.path.exists(options.line) and options.line != "-" and "=" not in options.line:
-            parser.error(f"'{options.line}' is a file: hand it over as standard input: - <'{options.line}'")
+        parser.reject((os.path.exists(options.line) and options.line != "-" and "=" not in options.line,
+                       f"'{options.line}' is a file: hand it over as standard input: - <'{options.line}'"))
     if options.pid is not None:
         from scfhost import processes  # pylint: disable=import-outside-toplevel
 
