@@ -42,32 +42,6 @@ TRACING_OPTIONS = ("-f", "-v", "-e", f"trace={filter_loads.TRACED_CALLS}", "-e",
                   "--quiet=attach,personality")
 
 
-def read_words():
-    parser = words.Parser(__doc__, processes.NEEDS)
-    parser.value("--thread", "TID", "only this thread of the process")
-    parser.value("--log", "LOG", "the filters that this log of strace -f -v shows being loaded")
-    parser.add("--force")
-    parser.value("places", "[PID] FOLDER",
-                 "a process, or a thread of it; a folder, created if it doesn't exist, without *.bpf", nargs="*")
-    own_words, traced = tracing.split(sys.argv[1:])
-    options = parser.parse_args(own_words)
-    options.traced, places = traced, options.places
-    is_running = options.log is None and not options.traced
-    if options.traced and not places:
-        places = [os.path.basename(options.traced[0]) + ".filters"]
-    if is_running and any(places[:1]) and not places[0].isdigit():
-        tracing.check_separated(parser, places, "filters-of")
-    parser.reject((len(places) != 1 + is_running or options.traced and options.log is not None,
-                   "give PID FOLDER, [FOLDER] -- PROGRAM, or --log LOG FOLDER"))
-    options.folder = places[-1]
-    options.pid = processes.number_in(places[0]) if is_running else None
-    options.thread = None if options.thread is None else processes.number_in(options.thread)
-    parser.reject((os.path.exists(options.folder) and not os.path.isdir(options.folder),
-                   f"'{options.folder}' isn't a folder"),
-                  (filters.saved_in(options.folder), f"the folder '{options.folder}' already has filters"))
-    return options
-
-
 def loaded_in(log, label, thread, hint):
     """The stack that the processes of a log share, or that one thread has; the hint says how to take that."""
     try:
@@ -139,13 +113,34 @@ def of_process(options):
 
 
 def main():
-    options, status = read_words(), program.SUCCESS
+    parser = words.Parser(__doc__, processes.NEEDS)
+    parser.value("--thread", "TID", "only this thread of the process")
+    parser.value("--log", "LOG", "the filters that this log of strace -f -v shows being loaded")
+    parser.add("--force")
+    parser.value("places", "[PID] FOLDER",
+                 "a process, or a thread of it; a folder, created if it doesn't exist, without *.bpf", nargs="*")
+    own_words, traced = tracing.split(sys.argv[1:])
+    options = parser.parse_args(own_words)
+    options.traced, places = traced, options.places
+    is_running = options.log is None and not options.traced
+    if options.traced and not places:
+        places = [os.path.basename(options.traced[0]) + ".filters"]
+    if is_running and any(places[:1]) and not places[0].isdigit():
+        tracing.check_separated(parser, places, "filters-of")
+    parser.reject((len(places) != 1 + is_running or options.traced and options.log is not None,
+                   "give PID FOLDER, [FOLDER] -- PROGRAM, or --log LOG FOLDER"))
+    folder = places[-1]
+    options.pid = processes.number_in(places[0]) if is_running else None
+    options.thread = None if options.thread is None else processes.number_in(options.thread)
+    parser.reject((os.path.exists(folder) and not os.path.isdir(folder), f"'{folder}' isn't a folder"),
+                  (filters.saved_in(folder), f"the folder '{folder}' already has filters"))
+    status = program.SUCCESS
     if options.traced:
         stack, status = of_program(options)
     elif options.log is not None:
         stack = loaded_in(options.log, inputs.label(options.log), options.thread, "--thread")
     else:
         stack = of_process(options)
-    os.makedirs(options.folder, exist_ok=True)
-    write(stack.named, options.folder)
+    os.makedirs(folder, exist_ok=True)
+    write(stack.named, folder)
     return tracing.end_as(status)

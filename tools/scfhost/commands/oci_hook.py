@@ -134,18 +134,12 @@ def is_dry_run():
 
 
 def main():
-    status = hook()
-    return program.SUCCESS if is_dry_run() else status
-
-
-def hook():
-    """The status without --dry-run."""
     try:
         options = read_words()
     except program.ToolError as why:
         if is_dry_run():
             program.say(f"dry run: usage error: {why}")
-            return program.TROUBLE
+            return program.SUCCESS
         if not is_hook_with("--kill"):
             raise
         wrong = hooks.failure(f"usage error: {why}", program.TROUBLE)
@@ -156,4 +150,6 @@ def hook():
     if options.print_hook:
         output.put(hooks.hook_file(os.path.abspath(sys.argv[0]), sys.argv[1:], seconds))
         return program.SUCCESS
-    return examine(lambda process: judge(options, process), seconds, options.kill and not options.dry_run, options.json)
+    kills = options.kill and not options.dry_run
+    status = examine(lambda process: judge(options, process), seconds, kills, options.json)
+    return program.SUCCESS if is_dry_run() else status

@@ -76,24 +76,24 @@ def runs(numbers: Iterable[int]) -> list[tuple[int, int]]:
     return spans
 
 
-# Verdicts, and how other lines begin that say as much: in green, in red and in yellow (ECMA-48), where there is colour.
-VERDICT_COLOURS = {"same": 32, "no more": 32, "no less": 32, "differs": 31, "more": 31, "less": 31, "unfinished": 33,
-                   "unconfined by configuration": 31, "unconfined though configured": 31}
-BEGINNING_COLOURS = {"accepted ": 32, "fault ": 31, "undecided at ": 33, "undetermined: ": 33}
+# Verdicts, and how other lines begin: green, red and yellow, and the tools' own lines faint (ECMA-48), where there is
+# colour.
+GREEN, RED, YELLOW, FAINT = "1;32", "1;31", "1;33", "2"
+VERDICT_COLOURS = {**dict.fromkeys(("same", "no more", "no less"), GREEN), "unfinished": YELLOW, **dict.fromkeys(
+    ("differs", "more", "less", "unconfined by configuration", "unconfined though configured"), RED)}
+BEGINNING_COLOURS = {"accepted ": GREEN, "fault ": RED, "undecided at ": YELLOW, "undetermined: ": YELLOW, "# ": FAINT}
 # `always`, `never`, or `auto`, which colours at a terminal unless NO_COLOR is set (no-color.org).
 color = "auto"
 
 
 def _colored(line: str) -> str:
-    """A line, safe by itself, in the colour of what it says, where that is wanted; the tools' own lines are faint."""
+    """A line, safe by itself, in the colour of what it says, where that is wanted."""
     is_auto = color == "auto" and sys.stdout is not None and sys.stdout.isatty() and not os.environ.get("NO_COLOR")
     if not is_auto and color != "always":
         return line
     colours = (colour for beginning, colour in BEGINNING_COLOURS.items() if line.startswith(beginning))
     colour = VERDICT_COLOURS.get(line) or next(colours, None)
-    if colour is None and not line.startswith("# "):
-        return line
-    return f"\x1b[{f'1;{colour}' if colour else 2}m{line}\x1b[0m"
+    return line if colour is None else f"\x1b[{colour}m{line}\x1b[0m"
 
 
 class Failed(OSError):

@@ -31,7 +31,7 @@ from ..cli import words
 from ..forms import number_sources
 
 
-def read_words():
+def main():
     parser = words.Parser(__doc__)
     parser.value("--comment", "TEXT", "begin with the line `# TEXT`")
     parser.flag("--libseccomp", "the syscalls that the installed libseccomp knows")
@@ -44,11 +44,6 @@ def read_words():
     parser.reject((options.comment and re.search("[\n\r]", options.comment), "the comment has more than one line"),
                   (options.libseccomp and (options.headers or options.architecture != "x86_64"),
                    "--libseccomp takes no HEADER, and prints x86-64's syscalls"))
-    return options
-
-
-def main():
-    options = read_words()
     comment = options.comment
     if options.libseccomp:
         version, calls = number_sources.of_libseccomp()

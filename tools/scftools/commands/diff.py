@@ -45,27 +45,6 @@ from ..report import blocks, changes, compare
 from ..report.compare_output import Judgement
 
 
-def read_words():
-    parser = words.Parser(__doc__)
-    parser.scope("x86-64 syscalls alone, whatever architectures a profile names")
-    parser.relation("only check that NEW is nowhere {} than OLD", words.OF_DISPOSITION)
-    runtimes.add_options(parser, is_sandboxes=True)
-    parser.flag("--keep-first", "OLD and NEW are an engine's own: if two entries without conditions answer a syscall, "
-                                "keep the first")
-    parser.flag("--profiles", "read both as profiles, whatever they look like")
-    parser.add("--machine", "--limit", "--splits", "--table", "--force", "--json")
-    parser.value("old", "OLD", "a filter or a profile, pid:N or unit:NAME; - is standard input")
-    parser.value("new", "NEW", "what is judged by it")
-    options = parser.parse_args()
-    is_engines = options.keep_first or runtimes.is_engines(options)
-    parser.reject((options.runtime == profiles.SANDBOX and is_engines, "--runtime sandbox reads no engine's profile"),
-                  (options.force and not operands.is_process(options.new), "--force needs a process as NEW"))
-    parser.one_standard_input([options.old, options.new, options.table])
-    options.is_made = options.runtime in runtimes.RUNTIMES or is_engines
-    options.setting = runtimes.setting_of_words(options, parser)
-    return parser, options
-
-
 def side_of(path, options):
     """What a word names: a process's filters, a filter, or a profile, as it is or as an engine or a runtime makes it;
     and what is left out of the profile."""
@@ -89,7 +68,23 @@ def side_of(path, options):
 
 
 def main():
-    parser, options = read_words()
+    parser = words.Parser(__doc__)
+    parser.scope("x86-64 syscalls alone, whatever architectures a profile names")
+    parser.relation("only check that NEW is nowhere {} than OLD", words.OF_DISPOSITION)
+    runtimes.add_options(parser, is_sandboxes=True)
+    parser.flag("--keep-first", "OLD and NEW are an engine's own: if two entries without conditions answer a syscall, "
+                                "keep the first")
+    parser.flag("--profiles", "read both as profiles, whatever they look like")
+    parser.add("--machine", "--limit", "--splits", "--table", "--force", "--json")
+    parser.value("old", "OLD", "a filter or a profile, pid:N or unit:NAME; - is standard input")
+    parser.value("new", "NEW", "what is judged by it")
+    options = parser.parse_args()
+    is_engines = options.keep_first or runtimes.is_engines(options)
+    parser.reject((options.runtime == profiles.SANDBOX and is_engines, "--runtime sandbox reads no engine's profile"),
+                  (options.force and not operands.is_process(options.new), "--force needs a process as NEW"))
+    parser.one_standard_input([options.old, options.new, options.table])
+    options.is_made = options.runtime in runtimes.RUNTIMES or is_engines
+    options.setting = runtimes.setting_of_words(options, parser)
     (old, of_old), (new, of_new) = (side_of(path, options) for path in (options.old, options.new))
     # (what is left out of both is no change)
     for side, notes, others in ((changes.OLD, of_old, of_new), (changes.NEW, of_new, of_old)):

@@ -40,7 +40,7 @@ from ..logs import least_profile, requirements, tracing
 RECORDING_OPTIONS = ("-f", "-n", "-e", "raw=all", "--quiet=attach")
 
 
-def read_words():
+def main():
     parser = words.Parser(__doc__)
     parser.value("--profile", "BASE", "write the smallest profile that allows what was recorded, with BASE's default "
                                       "and architectures")
@@ -57,26 +57,20 @@ def read_words():
                    "--widen and --runtime go with --profile"),
                   (options.profile is None and (options.file or "").endswith(".json"),
                    f"'{options.file}' would get the log, not a profile: --profile BASE makes one"))
-    options.traced = traced
     if options.file is None:
         options.file = tracing.new_name(traced, ".log" if options.profile is None else ".json")
         program.say(f"writes {options.file}")
     # (before the program runs for nothing)
     os.close(os.open(options.file, os.O_WRONLY | os.O_CREAT | os.O_CLOEXEC, 0o666))
-    return options
-
-
-def main():
-    options = read_words()
     if options.profile is None:
-        return tracing.end_as(tracing.run_traced(options.file, RECORDING_OPTIONS, options.traced))
+        return tracing.end_as(tracing.run_traced(options.file, RECORDING_OPTIONS, traced))
     profile = profile_inputs.read_profile(options.profile, None).data
     judges = requirements.Judges(profiles.read_as(profile, options.runtime or profiles.STRICT), None, None)
     try:
         judges.of(judges.own.oci)
         with tempfile.TemporaryDirectory(prefix="scf-record-") as folder:
             log = os.path.join(folder, "log")
-            ended = tracing.run_traced(log, RECORDING_OPTIONS, options.traced)
+            ended = tracing.run_traced(log, RECORDING_OPTIONS, traced)
             needs = requirements.read_needs([log], judges, options.runtime)
         status, text, remarks = least_profile.make(needs, judges, options.widen)
         with open(options.file, "w", encoding="utf-8") as file:

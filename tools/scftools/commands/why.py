@@ -74,32 +74,6 @@ from ..logs import audit_records, cause_report, causes, events
 TOLERANCE = 2.0
 
 
-def read_words():
-    parser = words.Parser(__doc__)
-    group = parser.add_mutually_exclusive_group()
-    group.add_argument("--pid", metavar="PID", help="take this process's records from the kernel's log and auditd's")
-    group.add_argument("--core", metavar="FILE", help="take the syscall from a core; - is standard input")
-    parser.flag("--every", "show every denied syscall of a strace log, not the most telling ones alone")
-    parser.add("--all", dest="every")
-    parser.add("--limit", "--splits", "--native", "--table", "--caps", "--json")
-    runtimes.add_option(parser, is_sandboxes=True)
-    parser.value("words", "LINE|PROFILE|FILTER", "without --pid and --core first what was logged, or - for standard "
-                 "input; then a profile and the filters of the process, oldest first", nargs="*")
-    options = parser.parse_args()
-    options.line = None
-    if options.pid is None and options.core is None:
-        parser.reject((not options.words, "LINE is missing: what was logged, or - for standard input"))
-        options.line, *options.words = options.words
-        parser.reject((os.path.exists(options.line) and options.line != "-" and "=" not in options.line,
-                       f"'{options.line}' is a file: hand it over as standard input: - <'{options.line}'"))
-    if options.pid is not None:
-        from scfhost import processes  # pylint: disable=import-outside-toplevel
-
-        options.pid = processes.number_in(options.pid)
-    parser.one_standard_input([options.line, options.core, options.table, *options.words])
-    return options
-
-
 def read_files(names, table, options):
     """The profile and the filters among some files, told apart by their first bytes: a profile is an object."""
     profile, stack = None, []
@@ -153,7 +127,28 @@ def of_process(options, files, table):
 
 
 def main():
-    options = read_words()
+    parser = words.Parser(__doc__)
+    group = parser.add_mutually_exclusive_group()
+    group.add_argument("--pid", metavar="PID", help="take this process's records from the kernel's log and auditd's")
+    group.add_argument("--core", metavar="FILE", help="take the syscall from a core; - is standard input")
+    parser.flag("--every", "show every denied syscall of a strace log, not the most telling ones alone")
+    parser.add("--all", dest="every")
+    parser.add("--limit", "--splits", "--native", "--table", "--caps", "--json")
+    runtimes.add_option(parser, is_sandboxes=True)
+    parser.value("words", "LINE|PROFILE|FILTER", "without --pid and --core first what was logged, or - for standard "
+                 "input; then a profile and the filters of the process, oldest first", nargs="*")
+    options = parser.parse_args()
+    options.line = None
+    if options.pid is None and options.core is None:
+        parser.reject((not options.words, "LINE is missing: what was logged, or - for standard input"))
+        options.line, *options.words = options.words
+        parser.reject((os.path.exists(options.line) and options.line != "-" and "=" not in options.line,
+                       f"'{options.line}' is a file: hand it over as standard input: - <'{options.line}'"))
+    if options.pid is not None:
+        from scfhost import processes  # pylint: disable=import-outside-toplevel
+
+        options.pid = processes.number_in(options.pid)
+    parser.one_standard_input([options.line, options.core, options.table, *options.words])
     table = tables.read_table(options.table)
     files = read_files(options.words, table, options)
     if options.core is not None:
