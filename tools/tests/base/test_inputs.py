@@ -197,7 +197,8 @@ class Words(Case):
                       ("compare", "--table", "none", self.filter, self.profile), ("decide", "none"),
                       ("run", "none"), ("check", "none"), ("list", "none"), ("compile", "none"),
                       ("decide", "--calls-from=none", self.filter),
-                      ("explain", "--table=none", "same"), ("bundle", "filter", "none")):
+                      ("explain", "--table=none", "same"), ("bundle", "filter", "none"), ("ask", "none"),
+                      ("compare-profiles", "none", "none"), ("surface", "none")):
             self.is_refused("there is no file 'none'", *words)
         for words in (("run", self.folder), ("check", self.folder), ("compile", self.folder), ("run", ""),
                       ("compare", self.folder, self.profile), ("compare", self.filter, self.folder),

@@ -70,10 +70,3 @@ class Bundle(Case):
         whole = self.file("whole", bytes(4194304))
         self.is_refused("more than 16777216 bytes together", "bundle", *["profile", whole] * 4, "table",
                         self.file("one", b"x"))
-
-    def test_nothing_is_left_behind(self):
-        room = os.path.join(self.folder, "room")
-        os.mkdir(room)
-        self.run_tool("bundle", "filter", self.file("a", b"x"), env={**os.environ, "TMPDIR": room})
-        self.run_tool("bundle", "filter", "none", env={**os.environ, "TMPDIR": room})
-        self.assertEqual(os.listdir(room), [])

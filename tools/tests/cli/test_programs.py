@@ -89,16 +89,6 @@ class Compile(Case):
             self.assertEqual((status, out), (2, b""))
             self.assertTrue(err.startswith(f"compile: {says}"), err)
 
-    def test_a_terminal_is_no_place_for_a_filter(self):
-        ours, theirs = os.openpty()
-        try:
-            done = completed([tool("compile"), self.file("p.json", profile_of("read"))], stdout=theirs)
-        finally:
-            os.close(ours)
-            os.close(theirs)
-        self.assertEqual(done.returncode, 2)
-        self.assertIn(b"redirect the output into a file", done.stderr)
-
 
 class Calls(Case):
     """The calls that a tool is given, of which one run answers several."""

@@ -308,6 +308,11 @@ class Case(unittest.TestCase):
         self.assertEqual(list(json_schema.faults_of_output(words, out, done.returncode)), [], words)
         return done.returncode, out, done.stderr.decode()
 
+    def run_line(self, line, **more):
+        """Runs a line of a shell, to which `scf` is this one, and which may have more in its environment."""
+        env = {**os.environ, "PATH": f"{TOP}:{os.environ['PATH']}", **more}
+        return self.run_words(["sh", "-c", line], env=env)
+
     def run_tool(self, name, *words, given=b"", **settings):
         return self.run_words([tool(name), *words], given, **settings)
 
