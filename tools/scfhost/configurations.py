@@ -6,7 +6,7 @@ from __future__ import annotations
 import os
 from collections.abc import Sequence
 
-from scftools.base import output
+from scftools.base import output, program
 from scftools.base.values import Any, Pattern
 from scftools.model import architectures, profiles
 from scftools.forms import engines, runtimes
@@ -27,7 +27,7 @@ RUNC_OPERATORS = {number: f"SCMP_CMP_{name}" for number, name in enumerate("EQ N
 RUNC_ARCHITECTURES = {"amd64": "X86_64", "arm64": "AARCH64"}
 
 
-class ContainerError(Exception):
+class ContainerError(program.ToolError):
     """Why it is unknown whether a container is confined."""
 
 

@@ -410,9 +410,8 @@ def run_safely(find: Callable[[], HookResult]) -> HookResult:
     """The finding; if anything fails, one that says why."""
     try:
         return find()
-    except (ContainerError, program.ToolError) as why:
-        status = getattr(why, "status", None)
-        return failure(str(why), status if status in (program.INTERNAL, program.NOT_BUILT) else program.TROUBLE)
+    except program.ToolError as why:
+        return failure(str(why), why.status if why.status in (program.INTERNAL, program.NOT_BUILT) else program.TROUBLE)
     except processes.Unreadable as why:
         return failure(f"{why} (--force stops it)" if isinstance(why, hold.Waiting) else str(why))
     except processes.Interrupted as came:

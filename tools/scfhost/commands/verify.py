@@ -130,13 +130,10 @@ def configured_request(container, settings):
         raise program.ToolError(f"the configuration of container {container.identifier}: {container.why}; give a "
                                 "PROFILE")
     table, scope, relation = settings
-    try:
-        if container.seccomp is None:
-            return verify.nothing_request(*settings, configured=False)
-        config = json.loads(container.seccomp)
-        return replace(verify.request_of(config, container.runtime, False, table, relation, scope), configured=True)
-    except configurations.ContainerError as why:
-        raise program.ToolError(str(why)) from why
+    if container.seccomp is None:
+        return verify.nothing_request(*settings, configured=False)
+    config = json.loads(container.seccomp)
+    return replace(verify.request_of(config, container.runtime, False, table, relation, scope), configured=True)
 
 
 def is_configured(data, name, kernel, pid):

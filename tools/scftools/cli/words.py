@@ -61,12 +61,20 @@ def _object_name(text: str) -> str:
     return text
 
 
-# The options and arguments that several tools take.
+# The options and arguments that several tools take; and first those without a value (`--all` is the old name of other
+# options, which stays for scripts).
+FLAGS = {
+    **dict.fromkeys(("--all", "--architectures", "--left-out"), argparse.SUPPRESS),
+    "--force": "also stop threads that wait for a seccomp supervisor, which then gets their syscalls a second time",
+    "--json": "print one JSON object instead of lines (JSON.md says what it holds)",
+    "--keep-first": "if two entries without conditions answer a syscall, keep the first whose answer isn't the "
+                    "default's, as runc and crun do",
+    "--native": "x86-64 alone, whatever architectures the profile names",
+    "--strict": "refuse a profile with members that nothing reads, which may be misspelt",
+    "--verbose": "list the names in the profile that were skipped, not only their count"}
 SHARED: dict[str, dict[str, Any]] = {
+    **{name: {"action": "store_true", "help": text} for name, text in FLAGS.items()},
     "--arch": {"metavar": "ARCH", "help": ARCH_HELP.format("", "")},
-    # (`--all` is the old name of other options, which stays for scripts)
-    **{name: {"action": "store_true", "help": argparse.SUPPRESS}
-       for name in ("--all", "--architectures", "--left-out")},
     **{name: {"metavar": "N", "help": argparse.SUPPRESS}
        for name in ("--nr-from", "--nr-to", "--reading", "--total-limit")},
     "--as": {"dest": "kind", "help": "what the input is, whatever it looks like"},
@@ -75,29 +83,17 @@ SHARED: dict[str, dict[str, Any]] = {
     "--caps": {"metavar": "LIST",
                "help": "PROFILE is an engine's own: resolve it, as resolve-profile does, for a container with these "
                        "capabilities: docker, podman, none or a list such as CAP_KILL,SYS_ADMIN"},
-    "--force": {"action": "store_true",
-                "help": "also stop threads that wait for a seccomp supervisor, which then gets their syscalls a "
-                        "second time"},
     "--html": {"metavar": "FILE", "help": "also write a page of HTML"},
-    "--json": {"action": "store_true", "help": "print one JSON object instead of lines (JSON.md says what it holds)"},
     "--kubernetes": {"metavar": "NAME", "type": _object_name,
                      "help": "print a SeccompProfile of Kubernetes' Security Profiles Operator by this name"},
-    "--keep-first": {"action": "store_true",
-                     "help": "if two entries without conditions answer a syscall, keep the first whose answer isn't "
-                             "the default's, as runc and crun do"},
     # (no limit is the greatest one, which scf never reaches; scf says if a text is no number)
     **{f"--{name}": {"metavar": "N", "help": text, "type": lambda text: str((1 << 64) - 1) if text == "none" else text}
        for name, text in client.LIMIT_OPTIONS.items()},
     "--machine": {"choices": tuple(row.machine for row in JUDGED.values() if row.machine), "metavar": "NAME",
                   "help": "resolve an engine's profile for this machine, by Go's name of it: "
                           f"{', '.join(row.machine for row in JUDGED.values() if row.machine)} [default: this one]"},
-    "--native": {"action": "store_true", "help": "x86-64 alone, whatever architectures the profile names"},
-    "--strict": {"action": "store_true",
-                 "help": "refuse a profile with members that nothing reads, which may be misspelt"},
     "--table": {"metavar": "FILE",
                 "help": "the table of x86-64's syscalls; - is standard input [default: tables/x86_64.table]"},
-    "--verbose": {"action": "store_true",
-                  "help": "list the names in the profile that were skipped, not only their count"},
     "filter": {"metavar": "FILTER", "help": f"{FILTER_HELP}; - is standard input"},
     "filters": {"metavar": "FILTER", "nargs": "+",
                 "help": f"{FILTER_HELP}; of several the oldest first; - is standard input"},

@@ -51,13 +51,13 @@ def listed(bpf_filter, options, table, query):
     if path is not None and path.decision.answer is None:
         return of_fault(path.status, path.decision.line)
     explained = list(enumerate(zip(done.lines, listing.meanings(data, table))))
+    indexes = path.indexes if path else ()
 
     def lines():
         shown = list(listing.listing_lines(explained, len(explained)))
         if options.dot:
-            return flow_graph.Drawing(flow_graph.Graph(data), shown, table,
-                                      path.indexes if path else ()).text().splitlines()
-        on_path = frozenset(path.indexes) if path is not None else ()
+            return flow_graph.Drawing(flow_graph.Graph(data), shown, table, indexes).text().splitlines()
+        on_path = frozenset(indexes)
         return shown if path is None else [
             *(f"{'>' if index in on_path else ' '} {line}" for index, line in enumerate(shown)),
             *output.notes(explanation.explain_answer(query.call, path.decision.answer, table))]
