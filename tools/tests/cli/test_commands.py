@@ -434,28 +434,25 @@ class Completion(Case):
         return mock.patch.dict(os.environ, PATH=f"{self.folder}:{os.environ['PATH']}")
 
     def test_bash(self):
+        """Commands, options, and of these the values: constants, capabilities, lists, choices, processes and files; also
+        of the commands scf-NAME."""
         self.assertEqual(self.completed("scf", ""), {*TOOLS})
         self.assertEqual(self.completed("scf", "help", "compa"), {"compare", "compare-profiles"})
-        self.assertEqual(self.completed("scf", "compare", "--no"), {"--no-more", "--no-less"})
-        for words in (["--nr", "renameat"], ["--nr", "=", "renameat"]):
-            self.assertEqual(self.completed("scf", "decide", *words), {"renameat", "renameat2"})
-        self.assertEqual(self.completed("scf", "ask", "--arch", "i38"), {"i386"})
-        self.assertEqual(self.completed("scf", "lint", "--except", "x3"), {"x32"})
-        self.assertIn(str(os.getpid()), self.completed("scf", "filters-of", "--thread", str(os.getpid())))
-        errnos = {item for item in errno.errorcode.values() if item.startswith("EP")}
-        self.assertEqual(self.completed("scf", "unit-profile", "--errno", "EP"), errnos)
         self.file("a file.bpf", b"")
-        self.assertEqual(self.completed("scf", "compare", "--table", "a"), {"a", "file.bpf"})
-
-    def test_values_in_bash(self):
-        """Constants, capabilities, lists of values, arguments that are no files, and the commands scf-NAME."""
-        for words, values in ((["decide", "--a0", "AF_IN"], {"AF_INET", "AF_INET6"}),
+        for words, values in ((["compare", "--no"], {"--no-more", "--no-less"}),
+                              (["decide", "--nr", "renameat"], {"renameat", "renameat2"}),
+                              (["decide", "--nr", "=", "renameat"], {"renameat", "renameat2"}),
                               (["decide", "--nr", "=", "read,renameat"], {"read,renameat", "read,renameat2"}),
+                              (["decide", "--a0", "AF_INE"], {"AF_INET", "AF_INET6"}),
+                              (["ask", "--arch", "i38"], {"i386"}), (["lint", "--except", "x3"], {"x32"}),
                               (["compile", "--caps", "docker,CAP_SYS_A"], {"docker,CAP_SYS_ADMIN"}),
-                              (["verify-process", str(os.getpid())], {str(os.getpid())}),
-                              (["lint", "--except", "x3"], {"x32"})):
-            self.assertLessEqual(values, self.completed("scf", *words), words)
-            self.assertEqual(self.completed(f"/usr/bin/scf-{words[0]}", *words[1:]), self.completed("scf", *words))
+                              (["compare", "--table", "a"], {"a", "file.bpf"}),
+                              (["unit-profile", "--errno", "EP"],
+                               {item for item in errno.errorcode.values() if item.startswith("EP")})):
+            self.assertEqual(self.completed("scf", *words), values, words)
+            self.assertEqual(self.completed(f"/usr/bin/scf-{words[0]}", *words[1:]), values, words)
+        for words in (["filters-of", "--thread", str(os.getpid())], ["verify-process", str(os.getpid())]):
+            self.assertIn(str(os.getpid()), self.completed("scf", *words))
         with self.units():
             self.assertEqual(self.completed("scf", "unit-profile", ""), {"a.service", "b@.service", "c.socket"})
             self.assertEqual(self.completed("scf", "unit-profile", "--json", "b"), {"b@.service"})

@@ -107,16 +107,14 @@ class Gate(Case):
         self.assertEqual([line for line in lines if "test_second" in line and "by itself" in line][0].split(" (")[0],
                          "test: test_second: 1 passed, 0 failed: by itself")
 
-    def test_a_skipped_test_is_no_failure(self):
-        skipped = FIRST + "    def test_it(self):\n        self.skipTest('no such thing')\n"
-        status, lines = self.gate(WELL, skipped)
-        self.assertEqual((status, lines[-1]), (0, "17 passed, 0 failed, 1 skipped"))
-
     def test_a_module_that_ends_early_or_has_no_test_is_a_failure(self):
-        for text in ("", "x = 1 /\n", "import os\nos._exit(0)\n", "import os\nos.kill(os.getpid(), 9)\n"):
-            status, lines = self.gate(WELL, text)
-            self.assertEqual(status, 1, text)
-            self.assertRegex(lines[-1], "^1[67] passed, 1 failed$")
+        """And a skipped test is none."""
+        skipped = FIRST + "    def test_it(self):\n        self.skipTest('no such thing')\n"
+        for text, status, last in ((skipped, 0, "17 passed, 0 failed, 1 skipped"), *((text, 1, "1[67] passed, 1 failed")
+                for text in ("", "x = 1 /\n", "import os\nos._exit(0)\n", "import os\nos.kill(os.getpid(), 9)\n"))):
+            actual, lines = self.gate(WELL, text)
+            self.assertEqual(actual, status, text)
+            self.assertRegex(lines[-1], f"^{last}$")
 
     def test_failures_of_each_step_are_counted(self):
         status, lines = self.gate(ci="5 passed, 2 failed", CI_STATUS="1")
