@@ -165,17 +165,12 @@ def _end(child: int) -> int | None:
     for kill in (os.killpg, os.kill):
         # (it may have no group of its own yet)
         unless_refused(None, kill, child, signal.SIGKILL)
-    until = time.monotonic() + LAST_WAIT
-    try:
-        while time.monotonic() < until:
-            ended, status = os.waitpid(child, os.WNOHANG)
-            if ended:
-                return os.waitstatus_to_exitcode(status)
-            time.sleep(0.001)
-    except ChildProcessError:
-        # SIGCHLD is ignored
-        pass
-    return None
+    until, (ended, status) = time.monotonic() + LAST_WAIT, (0, 0)
+    while not ended and time.monotonic() < until:
+        time.sleep(0.001)
+        # (-1: SIGCHLD is ignored)
+        ended, status = unless_refused((-1, 0), os.waitpid, child, os.WNOHANG)
+    return os.waitstatus_to_exitcode(status) if ended > 0 else None
 
 
 def have_seconds(seconds: float) -> None:

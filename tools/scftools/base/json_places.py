@@ -7,8 +7,8 @@ from collections.abc import Collection, Iterator, Sequence
 
 from .values import Pattern
 
-# How a token begins: a string, which ends at a quote that has no backslash, and others, which end here.
-JSON_TOKEN = Pattern(r'"|[\[\]{},:]|[^\s\[\]{},:"]+')
+# How a token begins: a string, and others, which end here; and in a string an escape, or the quote that ends it.
+JSON_TOKEN, IN_STRING = Pattern(r'"|[\[\]{},:]|[^\s\[\]{},:"]+'), Pattern(r'\\.|"', re.S)
 MEMBER_NAME = Pattern(r"[A-Za-z_]\w*", re.A)
 # At most so many characters of a member's name are printed; and so many tokens are read, which no honest profile has.
 LONGEST_STEP, MOST_TOKENS = 40, 1 << 20
@@ -47,13 +47,8 @@ class TooManyTokens(Exception):
 
 def _end_of_string(text: str, begin: int) -> int:
     """The index behind a string that begins there, or behind a text that ends in it."""
-    before, at = begin + 1, text.find('"', begin + 1)
-    while at >= 0:
-        piece = text[before:at]
-        if (len(piece) - len(piece.rstrip("\\"))) % 2 == 0:
-            return at + 1
-        before, at = at + 1, text.find('"', at + 1)
-    return len(text)
+    quotes = (match.end() for match in IN_STRING.finditer(text, begin + 1) if match[0] == '"')
+    return next(quotes, len(text))
 
 
 def tokens(text: str) -> Iterator[tuple[int, str]]:

@@ -7,6 +7,7 @@ from __future__ import annotations
 
 import codecs
 import errno
+import itertools
 import os
 import sys
 import time
@@ -67,13 +68,9 @@ def sha256(data: bytes) -> str:
 
 def runs(numbers: Iterable[int]) -> list[tuple[int, int]]:
     """Numbers by runs of neighbours, each its first and its last one."""
-    spans: list[tuple[int, int]] = []
-    for number in numbers:
-        if spans and number == spans[-1][1] + 1:
-            spans[-1] = spans[-1][0], number
-        else:
-            spans.append((number, number))
-    return spans
+    groups = itertools.groupby(enumerate(numbers), lambda pair: pair[1] - pair[0])
+    spans = ([number for _, number in group] for _, group in groups)
+    return [(span[0], span[-1]) for span in spans]
 
 
 # Verdicts, and how other lines begin: green, red and yellow, and the tools' own lines faint (ECMA-48), where there is

@@ -207,8 +207,8 @@ class Parser(argparse.ArgumentParser):
         for action in self._actions:
             value = getattr(options, action.dest, None)
             if action.option_strings and value not in (None, action.default) and action.const in (None, value):
-                values = [] if action.nargs == 0 else value if isinstance(value, list) else [value]
-                given[action.option_strings[-1]] = values
+                given[action.option_strings[-1]] = [] if action.nargs == 0 else \
+                    value if isinstance(value, list) else [value]
         return given
 
     def program_words(self, options: Any) -> list[str] | None:
@@ -250,7 +250,7 @@ class Parser(argparse.ArgumentParser):
         if message.startswith(("unrecognized arguments: -", "the following arguments are required: ")):
             # (where words are unknown or too few, an option may be misspelt)
             options = sys.argv[1:sys.argv.index("--")] if "--" in sys.argv else sys.argv[1:]
-            flags = {flag: action for action in self._actions for flag in action.option_strings}
+            flags = self._option_string_actions
             wrong = next((word for word in (word.partition("=")[0] for word in options)
                           if re.fullmatch("--?[A-Za-z][A-Za-z0-9-]+", word) and word not in flags), None)
             if wrong is not None:
