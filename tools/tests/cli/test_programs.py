@@ -106,12 +106,9 @@ class Calls(Case):
             self.assertEqual(self.run_tool(name, given=filter_of([0]))[:2], (0, f"ALLOW 0{steps}\n"))
 
     def test_by_options(self):
-        path = "# the path in the filter: 0 1 3 4 6 "
-        for name, steps, paths in (("decide", "", [f"{path}8\n", f"{path}7\n"]), ("run", " steps 6", ["", ""])):
-            self.assertEqual(self.output_of(0, name, "--nr", "read", "--nr=1", self.filter),
-                             f"ALLOW 0{steps}\n# the syscall is read (0)\n# ALLOW: the syscall is executed\n{paths[0]}"
-                             f"ERRNO 1{steps}\n# the syscall is write (1)\n# ERRNO 1: the syscall fails with EPERM\n"
-                             f"{paths[1]}")
+        self.assertEqual(self.output_of(0, "run", "--nr", "read", "--nr=1", self.filter),
+                         "ALLOW 0 steps 6\n# the syscall is read (0)\n# ALLOW: the syscall is executed\n"
+                         "ERRNO 1 steps 6\n# the syscall is write (1)\n# ERRNO 1: the syscall fails with EPERM\n")
 
     def test_by_a_file(self):
         asks = self.file("asks.bpf", load(16) + jeq(7, 0, 1) + ret(ALLOW) + ret(EPERM))
@@ -201,7 +198,7 @@ class WhichFilter(Case):
 
 
 class Profiles(Case):
-    """Names of a profile that the table doesn't have, and where it stops being JSON."""
+    """Names of a profile that the table doesn't have."""
 
     def setUp(self):
         super().setUp()
@@ -243,26 +240,6 @@ class Profiles(Case):
         self.assertIsNone(tables.nearest("read" * 1000, tables.read_table(TABLE)))
 
 
-    def test_where_it_stops_being_json(self):
-        for text, says in ((b'{\n  "defaultAction": "SCMP_ACT_ALLOW",\n  "syscalls": [}\n}\n', "line 3, column 16: "),
-                           (b" \n", "the profile is empty"), (b'{"a": "\x01"}', "line 1, column 8: "),
-                           (b'{"a"\n: tru}', "line 2, column 3: "), (b'{"a": 1,}', "line 1, column "),
-                           (b'{}\n {', "line 2, column 2: "),
-                           (b'{\n"a": "\xff"}', "the profile isn't UTF-8 from line 2, column 7 on"),
-                           ("{\n\"é\": \"é".encode() + b"\xff\"}",
-                            "the profile isn't UTF-8 from line 2, column 8 on"),
-                           (b'{"a":\n' + b"[" * 127 + b"]" * 127 + b"}",
-                            "at line 2, column 127 the profile is nested more than 127 deep"),
-                           (b'{"a": "[[\\"[[' + b"[" * 200 + b'", "b"}', "the JSON is malformed at line 1, column "),
-                           (b'{"a": NaN}', "NaN, which isn't a JSON number"),
-                           (b'{"a": "\\ud800"}', "a has an unpaired surrogate")):
-            profile = self.file("p.json", text)
-            # (what is blank may be meant as either)
-            words = ("compare", self.same) if text.strip() else ("compare-profiles", profile)
-            self.assertIn(says, self.begins(2, "fault profile Json", self.run_tool(*words, profile)))
-            self.is_refused(says, "compile", profile)
-
-
 class Objects(Case):
     """--json: one object that says what the lines say."""
 
@@ -281,16 +258,12 @@ class Objects(Case):
                     "unknown": [{"name": "umont2", "nearest": "umount2"}]}
         foreign = {"foreign": [{"kind": kind, "is_decided": True, "not_denied": []} for kind in ("i386", "x32")]}
         alone = self.file("alone.json", profile_of("read", "waitpid", "umont2"))
-        self.assertEqual(found("--all", same, alone), {"status": 0, "scope": "all", "verdict": "same", "calls": [],
-                                                       **left_out, "other_architectures": []})
         of_i386 = found(same, profile)
         self.assertEqual({name: of_i386[name] for name in ("status", "scope", "verdict", "architectures", "skipped")},
                          {"status": 1, "scope": "listed", "verdict": "differs", "skipped": ["umont2"],
                           "architectures": ["SCMP_ARCH_X86_64", "SCMP_ARCH_X86"]})
         self.assertEqual((of_i386["call"]["architecture"], of_i386["filter"], of_i386["profile"]["action"]),
                          (hex(I386), {"action": "KILL_PROCESS", "data": 0}, "ALLOW"))
-        self.assertEqual(found("--native", same, profile),
-                         {"status": 0, "scope": "native", "verdict": "same", "calls": [], **left_out, "foreign": []})
         call = {"number": 231, "names": ["exit_group"], "c": "exit_group(0)", "architecture": "0xc000003e",
                 "pointer": "0x0", "arguments": ["0x0"] * 6}
         sides = {"call": call, "filter": {"action": "ALLOW", "data": 0},
@@ -298,12 +271,11 @@ class Objects(Case):
         why = {"reason": "default", "path": {"filter": wrong, "indexes": [0, 1, 3, 4, 6, 7, 9]}}
         line = {"number": 231, "names": ["exit_group"], "verdict": "differs", **sides}
         relations = {"no_more": "more", "no_less": "no less"}
-        self.assertEqual(found("--all", wrong, alone),
-                         {"status": 1, "scope": "all", "verdict": "differs", **sides, **why, **relations,
-                          "calls": [line], **left_out, "other_architectures": []})
-        self.assertEqual(found("--native", wrong, profile),
-                         {"status": 1, "scope": "native", "verdict": "differs", **sides, **why, **relations,
-                          "calls": [line], **left_out, "foreign": []})
+        for scope, given, member in (("all", alone, "other_architectures"), ("native", profile, "foreign")):
+            both = {"scope": scope, **left_out, member: []}
+            self.assertEqual(found(f"--{scope}", same, given), {"status": 0, "verdict": "same", "calls": [], **both})
+            self.assertEqual(found(f"--{scope}", wrong, given), {
+                "status": 1, "verdict": "differs", **sides, **why, **relations, "calls": [line], **both})
         self.assertEqual(found("--calls", wrong, alone),
                          {"status": 1, "scope": "calls", "verdict": "differs", **relations, "calls": [line], **left_out,
                           "other_architectures": [], **foreign})

@@ -58,10 +58,19 @@ class Places(Case):
                            # JSON that is malformed
                            ('{"a": {"b c": [1, 2,\n x]}}', "line 2, column 2: Expecting value (in a[\"b c\"][2])"),
                            ('{"defaultAction": "A"\n "syscalls": []}', "Expecting ',' delimiter (after defaultAction)"),
+                           (b'{"a": "\x01"}', "line 1, column 8: "), (b'{"a"\n: tru}', "line 2, column 3: "),
+                           (b'{}\n {', "line 2, column 2: "),
+                           (b'{\n"a": "\xff"}', "the profile isn't UTF-8 from line 2, column 7 on"),
+                           ("{\n\"é\": \"é".encode() + b"\xff\"}",
+                            "the profile isn't UTF-8 from line 2, column 8 on"),
+                           (b'{"a":\n' + b"[" * 127 + b"]" * 127 + b"}",
+                            "at line 2, column 127 the profile is nested more than 127 deep"),
+                           (b'{"a": "[[\\"[[' + b"[" * 200 + b'", "b"}', "the JSON is malformed at line 1, column "),
                            ('{"a": [NaN]}', "at line 1, column 8 a[0] is NaN, which isn't a JSON number"),
                            ('{"a": [1, 1e999]}', "at line 1, column 11 a[1] is a number out of range"),
                            ('{"a": "\\ud800"}', "at line 1, column 7 a has an unpaired surrogate")):
             self.assertIn(says, self.said(text))
+        self.is_refused("the profile is empty", "compile", self.file("p.json", b" \n"))
 
     def test_what_people_take_for_json(self):
         """It is named first, and where it stands; a comma by its own place or that of the bracket behind it."""
