@@ -129,8 +129,8 @@ def request_of(config: dict[str, Any], runtime: str | None, keeps_first: bool, t
             return Request(applied.data, table, scope, relation, applied)
         data = engines.to_bytes(config)
         if keeps_first:
-            profile, _ = engines.resolve(config, engines.Setting((), (0, 0), False), lambda _: None, True)
-            data = engines.printed(profile).encode()
+            resolver = engines.Resolver(engines.Setting((), (0, 0), False))
+            data = engines.printed(resolver.resolved(config, True)).encode()
         return Request(data, table, scope, relation)
     except profiles.Refused as why:
         raise ContainerError(f"the container's configuration: {why}") from why

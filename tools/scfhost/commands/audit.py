@@ -101,8 +101,9 @@ def show(report, given, table, earlier):
 def main():
     given = read_words()
     table = tables.read_table(given.table)
-    expected, baseline = (None if name is None else (name, profile_inputs.read_profile(name, is_runtimes=True).data)
-                          for name in (given.expect, given.baseline))
+    expected, baseline = (
+        None if name is None else (name, profile_inputs.profile_in(profile_inputs.read_text(name), name, True).data)
+        for name in (given.expect, given.baseline))
     options = expectations.Options(table, expected, baseline, given.force, given.allow_unconfined,
                                    tuple(given.runtime_root), verdicts.NATIVE_SCOPE if given.native else None,
                                    given.html is not None)

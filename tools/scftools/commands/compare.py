@@ -89,7 +89,7 @@ def read_words():
         (options.html and has_process, "--html shows one comparison, and a process may have several stacks"))
     others = [options.profile, *options.also] if options.beside is None else options.beside
     parser.one_standard_input([*options.filters, *others, options.table])
-    runtimes.check_words(options)
+    runtimes.words_of(options)
     return parser, options
 
 

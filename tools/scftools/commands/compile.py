@@ -90,14 +90,14 @@ def main():
     parser.one_standard_input([options.profile, options.table, options.hot])
     if not options.json:
         parser.keep_off_terminal()
-    data = inputs.read_input(options.profile, "text") if options.kind else runtimes.text_of(options)
+    data = inputs.read_input(options.profile, "text") if options.kind else runtimes.text_of(options.profile, options)
     if options.kind or assembler.is_text(data):
         words.refuse(options, OF_PROFILES, f"speaks of a profile, and '{options.profile}' is an assembler's text")
         done = client.run_scf(["asm"], data)
         sentences = () if done.status == program.SUCCESS else [
             *assembler.wrong_word(data.decode("latin-1"), Fault.read(done.line)), *explanation.explain_line(done.line)]
         return put(done, options, done.out, sentences)
-    profile = runtimes.input_in(data, options, options.strict)
+    profile = runtimes.input_in(data, options.profile, options, options.strict)
     judged = profile.judged(tables.read_table(options.table), options.native)
     hot = [] if options.hot is None else counts.read_counts(options.hot, profile.data, judged, not options.no_bitmap)
     done = client.run_scf(["compile", "--left-out", *judged.words],

@@ -84,8 +84,8 @@ def read_words():
 def read_input(options):
     """The stack of filters, the profile or the process that a command line names."""
     if options.kind is not None:
-        named = runtimes.with_profile(options, options.words[0])
-        return runtimes.input_in(runtimes.text_of(named), named, named.strict)
+        name = options.words[0]
+        return runtimes.input_in(runtimes.text_of(name, options), name, options, options.strict)
     if len(options.words) > 1:
         given = operands.read_stacks(options.words)
     else:

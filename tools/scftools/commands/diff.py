@@ -55,14 +55,11 @@ def side_of(path, options):
         return [filters.filter_in(path, data)], []
     if not options.is_made:
         return profile_inputs.profile_in(data, path, is_runtimes=True).read_by(options.runtime), []
-    notes = []
     try:
         value = engines.parse_json(profile_inputs.plain(data, path))
-        if options.runtime is not None:
-            given = runtimes.applied(value, options.runtime, options.setting)
-            return given, [*engines.at_most(given.notes), *given.remarks]
-        profile, origins = engines.resolve(value, options.setting, notes.append, options.keep_first)
-        return profile_inputs.ProfileInput(engines.to_bytes(profile), origins), notes
+        given = runtimes.applied(value, options.runtime, options.setting) if options.runtime is not None else \
+            profile_inputs.resolved(value, options.setting, options.keep_first)
+        return given, [*engines.at_most(given.notes), *given.remarks]
     except profiles.Refused as why:
         raise program.ToolError(f"{path}: {why}") from why
 

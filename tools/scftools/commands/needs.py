@@ -83,7 +83,7 @@ from ..base import output, program
 from ..model import architectures, profiles
 from ..ask import client
 from ..cli import words
-from ..forms import kubernetes, profile_inputs, refusals, runtimes, strace
+from ..forms import kubernetes, refusals, runtimes, strace
 from ..report.blocks import Block, put_block
 from ..logs import least_profile, requirements
 
@@ -116,7 +116,7 @@ def read_words():
 def main():
     options = read_words()
     named = None if options.arch is None else architectures.judged_in(options.arch)
-    profile = profile_inputs.read_profile(options.profile, options.caps).data
+    profile = runtimes.read_profile(options.profile, options.caps).data
     if strace.is_log(profile):
         raise program.ToolError(f"'{options.profile}' is a strace log, not a profile: LOG comes before PROFILE")
     judges = requirements.Judges(profiles.read_as(profile, options.runtime or profiles.STRICT), named, options.table)

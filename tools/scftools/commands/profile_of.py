@@ -180,7 +180,12 @@ def of_engine(data, options):
         say(*given.describe())
         profile = given.profile
     else:
-        profile, _ = engines.resolve(value, setting, say, options.keep_first)
+        resolver = engines.Resolver(setting)
+        try:
+            profile = resolver.resolved(value, options.keep_first)
+        finally:
+            # (what is noted before it is refused)
+            say(*engines.at_most(resolver.notes))
     if options.multiplexed:
         profile, _ = libseccomp.with_rules(profile, say)
     return put_profile(engines.printed(profile), profile, options, remarks)

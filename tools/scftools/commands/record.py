@@ -34,7 +34,7 @@ from ..base import output, program
 from ..model import profiles
 from ..ask import client
 from ..cli import words
-from ..forms import profile_inputs, refusals, runtimes
+from ..forms import refusals, runtimes
 from ..logs import least_profile, requirements, tracing
 
 RECORDING_OPTIONS = ("-f", "-n", "-e", "raw=all", "--quiet=attach")
@@ -64,7 +64,7 @@ def main():
     os.close(os.open(options.file, os.O_WRONLY | os.O_CREAT | os.O_CLOEXEC, 0o666))
     if options.profile is None:
         return tracing.end_as(tracing.run_traced(options.file, RECORDING_OPTIONS, traced))
-    profile = profile_inputs.read_profile(options.profile, None).data
+    profile = runtimes.read_profile(options.profile).data
     judges = requirements.Judges(profiles.read_as(profile, options.runtime or profiles.STRICT), None, None)
     try:
         judges.of(judges.own.oci)

@@ -9,7 +9,7 @@ import errno
 import json
 import os
 import re
-from collections.abc import Callable, Iterator, Sequence
+from collections.abc import Iterator, Sequence
 
 from ..base import output
 from ..base.values import Any, dataclass, field
@@ -143,31 +143,28 @@ def parse_json(data: bytes) -> Any:
         raise Refused(f"the profile isn't JSON: {profiles.malformed(error)}") from error
 
 
-def to_bytes(profile: dict[str, Any]) -> bytes:
-    """The bytes of a resolved profile for scf."""
+def dumped(value: Any, indent: int | None = None) -> str:
+    """The JSON text of a profile or of what has one."""
     try:
-        return json.dumps(profile).encode()
+        return json.dumps(value, indent=indent)
     except RecursionError as error:
         raise Refused("the profile is nested too deep") from error
+
+
+def to_bytes(profile: dict[str, Any]) -> bytes:
+    """The bytes of a resolved profile for scf."""
+    return dumped(profile).encode()
 
 
 def printed(profile: dict[str, Any]) -> str:
-    """The text of a resolved profile, made entry by entry, of which there may be many."""
-    try:
-        entries = [json.dumps(entry, indent=4).replace("\n", "\n        ") for entry in profile["syscalls"]]
-        text = json.dumps({**profile, "syscalls": []}, indent=4)
-    except RecursionError as error:
-        raise Refused("the profile is nested too deep") from error
-    if entries:
-        text = text.removesuffix("[]\n}") + "[\n        " + ",\n        ".join(entries) + "\n    ]\n}"
-    return text + "\n"
+    return dumped(profile, 4) + "\n"
 
 
 # A member: the object that has it, its name, its value, and its kind, None if no engine reads it.
 Member = tuple[str, str, Any, Any]
 
 
-def checked(value: Any, kind: Any, where: str, setting: Setting) -> Iterator[Member]:
+def checked(value: Any, kind: Any, where: str, unread: Sequence[str] = ()) -> Iterator[Member]:
     """The members of an object and of those in it. Refuses a value that isn't an object, a list, a string, a number or
     a kernel version as the engines read it, and an object that they read otherwise than it is spelled. A member that
     is null is absent."""
@@ -180,14 +177,14 @@ def checked(value: Any, kind: Any, where: str, setting: Setting) -> Iterator[Mem
                 if read_as is not None:
                     raise Refused(profiles.Misread(where, name, read_as).describe())
             yield where, name, member, kind.get(name)
-            if name in kind and member is not None and name not in setting.unread:
-                yield from checked(member, kind[name], where_in(where, name), setting)
+            if name in kind and member is not None and name not in unread:
+                yield from checked(member, kind[name], where_in(where, name), unread)
     elif isinstance(kind, list):
         are_texts = kind == [TEXT_TYPE]
         if not isinstance(value, list) or are_texts and not all(isinstance(item, str) for item in value):
             raise Refused(f"{where} isn't a list" + " of strings" * are_texts)
         for index, element in enumerate(() if are_texts else value):
-            yield from checked(element, kind[0], where_in(where, index), setting)
+            yield from checked(element, kind[0], where_in(where, index), unread)
     elif kind == NUMBER_TYPE:
         if type(value) is not int or not 0 <= value < 1 << 64:
             raise Refused(f"{where} isn't an integer from 0 to 2^64-1")
@@ -195,6 +192,14 @@ def checked(value: Any, kind: Any, where: str, setting: Setting) -> Iterator[Mem
         raise Refused(f"{where} " + ("isn't a string" if kind == TEXT_TYPE else "isn't a kernel version such as 4.8"))
     elif kind == VERSION_TYPE:
         version_of(value, where)
+
+
+def seccomp_of(value: Any) -> Any:
+    """The seccomp object of a profile, or of a whole config.json."""
+    if isinstance(value, dict) and value.get("defaultAction") is None and value.get("linux") is not None:
+        list(checked(value, {"linux": {"seccomp": {}}}, "the profile"))
+        return value["linux"].get("seccomp")
+    return value
 
 
 def members_of(value: dict[str, Any] | None, setting: Setting) -> dict[str, Any]:
@@ -243,19 +248,13 @@ def at_most(notes: Sequence[str]) -> Iterator[str]:
 
 
 class Resolver:
-    """Makes a resolved profile, and reports what is left out and why."""
+    """Makes a resolved profile, and notes what is left out and why."""
 
-    def __init__(self, setting: Setting, tell: Callable[[str], None]):
+    def __init__(self, setting: Setting):
         self.setting = setting
-        self.tell = tell
-        self.notes = 0
+        self.notes: list[str] = []
         # of each entry of the resolved profile
         self.origins: list[Origin] = []
-
-    def note(self, text: str) -> None:
-        self.notes += 1
-        if self.notes <= MAX_NOTES:
-            self.tell(text)
 
     def errno_of(self, holder: dict[str, Any], name: str, number: str, where: str) -> Any:
         """An errno: by its name or as a text where that stands, else the number (getErrno of containers-common)."""
@@ -267,7 +266,7 @@ class Resolver:
             raise Refused(f"{where}: {name} '{excerpt(text)}' isn't an errno that podman knows")
         value = int(text) if is_number else getattr(errno, text)
         if holder.get(number) not in (None, value):
-            self.note(f"{where}: {name} '{text}' is used, not {number} {excerpt(holder[number])}")
+            self.notes.append(f"{where}: {name} '{text}' is used, not {number} {excerpt(holder[number])}")
         return value
 
     def architectures_of(self, top: dict[str, Any]) -> list[str]:
@@ -281,7 +280,7 @@ class Resolver:
         if self.setting.is_native and others:
             if native not in names:
                 raise Refused(f"the profile isn't for {native}")
-            self.note(f"architectures left out: {excerpts(others)}")
+            self.notes.append(f"architectures left out: {excerpts(others)}")
             return [native]
         return names
 
@@ -300,15 +299,6 @@ class Resolver:
             members["comment"] = entry["comment"]
         return members if names else None
 
-    def seccomp_of(self, value: Any) -> Any:
-        """The seccomp object of a profile, or of a whole config.json."""
-        if isinstance(value, dict) and value.get("defaultAction") is None and value.get("linux") is not None:
-            for _ in (*checked(value, {"linux": {}}, "the profile", self.setting),
-                      *checked(value["linux"], {"seccomp": {}}, "linux", self.setting)):
-                pass
-            return value["linux"].get("seccomp")
-        return value
-
     def tell_unread(self, members: Sequence[Member]) -> None:
         """Reports the members that nothing reads, and refuses those that may be conditions; of those that only other
         engines read each once."""
@@ -319,17 +309,17 @@ class Resolver:
                 raise Refused(f"{where} has a member '{excerpt(name)}', which no engine reads, and which may be a "
                               f"condition: --ignore {excerpt(name)} ignores it")
             if kind is None:
-                self.note(f"{where}: nothing reads '{excerpt(name)}'")
+                self.notes.append(f"{where}: nothing reads '{excerpt(name)}'")
             elif member is not None and name in self.setting.unread:
                 of_others.setdefault(name, where)
         for name, where in of_others.items():
-            self.note(f"{where}: {self.setting.engine} doesn't read '{name}'")
+            self.notes.append(f"{where}: {self.setting.engine} doesn't read '{name}'")
 
-    def resolved(self, value: Any) -> dict[str, Any]:
-        """The profile that the engine makes in this setting."""
-        value = self.seccomp_of(value)
+    def resolved(self, value: Any, keeps_first: bool = False) -> dict[str, Any]:
+        """The profile that the engine makes in this setting; on request without later answers to a syscall."""
+        value = seccomp_of(value)
         where = "linux.seccomp" if value is None else "the profile"
-        members = list(checked(value, SECCOMP_MEMBERS, where, self.setting))
+        members = list(checked(value, SECCOMP_MEMBERS, where, self.setting.unread))
         top = members_of(value, self.setting)
         if not top.get("defaultAction"):
             raise Refused("there is no defaultAction")
@@ -349,44 +339,27 @@ class Resolver:
             made = None if why else self.entry_of(entry, f"entry {at}")
             origin = Origin(at, excerpts([entry["name"]] if entry.get("name") else entry.get("names", [])))
             if made is None:
-                self.note(f"{origin.describe()} left out: {why or 'it has no name'}")
+                self.notes.append(f"{origin.describe()} left out: {why or 'it has no name'}")
             else:
                 self.origins.append(origin)
                 profile["syscalls"].append(made)
+        if keeps_first:
+            self._keep_first(profile)
         return profile
 
-    def keep_first(self, profile: dict[str, Any]) -> None:
+    def _keep_first(self, profile: dict[str, Any]) -> None:
         """Leaves names out of an entry without conditions that another such entry answers otherwise: the first one
         whose answer isn't the default's. Runtimes give libseccomp no entry with the default's."""
         default = answer_of(profile["defaultAction"], profile.get("defaultErrnoRet"))
-        answers = [answer_of(entry["action"], entry.get("errnoRet")) for entry in profile["syscalls"]]
-        first: dict[str, Answer] = {}
-        for entry, answer in zip(profile["syscalls"], answers):
-            if not entry.get("args") and answer != default:
-                for name in entry["names"]:
-                    first.setdefault(name, answer)
-        for entry, answer in zip(profile["syscalls"], answers):
-            if entry.get("args"):
-                continue
-            for name in entry["names"]:
-                if first.get(name, answer) != answer:
-                    self.note(f"{excerpt(name)} left out of an entry with {excerpt(entry['action'])}: another entry "
-                              f"has it with {first[name].oci}")
+        plain = [(entry, answer_of(entry["action"], entry.get("errnoRet")))
+                 for entry in profile["syscalls"] if not entry.get("args")]
+        first = {name: answer for entry, answer in reversed(plain) if answer != default for name in entry["names"]}
+        for entry, answer in plain:
+            self.notes += (f"{excerpt(name)} left out of an entry with {excerpt(entry['action'])}: another entry has it "
+                           f"with {first[name].oci}" for name in entry["names"] if first.get(name, answer) != answer)
             entry["names"] = [name for name in entry["names"] if first.get(name, answer) == answer]
         self.origins = [origin for entry, origin in zip(profile["syscalls"], self.origins) if entry["names"]]
         profile["syscalls"] = [entry for entry in profile["syscalls"] if entry["names"]]
-
-
-def resolve(value: Any, setting: Setting, tell: Callable[[str], None],
-            keeps_first: bool = False) -> tuple[dict[str, Any], list[Origin]]:
-    """The resolved profile, and the origin of each entry; on request without later answers to a syscall."""
-    resolver = Resolver(setting, tell)
-    profile = resolver.resolved(value)
-    if keeps_first:
-        resolver.keep_first(profile)
-    if resolver.notes > MAX_NOTES:
-        tell(f"{resolver.notes - MAX_NOTES} more such lines")
-    return profile, resolver.origins
 
 
 def capabilities_of(text: str) -> list[str]:

@@ -42,9 +42,7 @@ def read(word: str, options: Any = None) -> Filter | ProfileInput | Inspection:
         return filters.filter_in(word, data)
     from . import runtimes  # pylint: disable=import-outside-toplevel
 
-    named = runtimes.with_profile(options, word)
-    runtimes.check_words(named)
-    return runtimes.input_in(data, named, named.strict)
+    return runtimes.input_in(data, word, options, getattr(options, "strict", False))
 
 
 def read_stacks(words: Sequence[str], options: Any = None, compiles: bool = False) -> list[Filter] | Inspection:

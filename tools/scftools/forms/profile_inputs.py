@@ -163,10 +163,6 @@ def read_text(name: str, kind: str | None = None) -> bytes:
     return inputs.read_input(name, "profile") if kind is None else inputs.read_whole(name, kind)
 
 
-def read_profile(name: str, caps: str | None = None, is_runtimes: bool = False) -> ProfileInput:
-    return profile_in(read_text(name, None if caps is None else "engine's profile"), name, caps, is_runtimes)
-
-
 def tell_unread(data: bytes, path: str, is_strict: bool) -> None:
     """Says which members of a profile aren't read, which may be misspelt; or refuses it."""
     of_spec = ("baseProfileName", "disabled") if isinstance(data, DerivedProfile) else ()
@@ -183,26 +179,13 @@ def tell_unread(data: bytes, path: str, is_strict: bool) -> None:
     program.say(remark)
 
 
-def profile_in(data: bytes, name: str, caps: str | None = None, is_runtimes: bool = False,
-               is_strict: bool = False, machine: str | None = None) -> ProfileInput:
-    """The profile in what was read of an input, with `caps` an engine's, for a machine. Refuses one with members that
-    only podman reads otherwise than scf, or, if a runtime is said to apply it, that any program in Go does; and if
-    strict, with members that nothing reads. scf itself refuses the other members of engines."""
-    if caps is None and len(data) > inputs.LIMITS["profile"]:
-        # scf says so
+def profile_in(data: bytes, name: str, is_runtimes: bool = False, is_strict: bool = False) -> ProfileInput:
+    """The profile in what was read of an input, by its words. Refuses one with members that only podman reads otherwise
+    than scf, or, if a runtime is said to apply it, that any program in Go does; and if strict, with members that
+    nothing reads. scf itself refuses the other members of engines, and what is too long."""
+    if len(data) > inputs.LIMITS["profile"]:
         return ProfileInput(data)
     data = plain(data, name)
-    if caps is not None:
-        setting, label = engines.setting_of(caps, machine=machine), inputs.label(name)
-        try:
-            resolved, origins = engines.resolve(engines.parse_json(data), setting, lambda _: None, True)
-            profile = DerivedProfile(engines.to_bytes(resolved))
-        except profiles.Refused as why:
-            raise program.ToolError(f"{label}: {why}") from why
-        more = "" if machine is None else f" --machine {machine}"
-        program.say(f"{label} is resolved as by resolve-profile --keep-first --caps {caps}{more}, which says what is "
-                    f"left out; entries that remain: {len(resolved['syscalls'])}")
-        return ProfileInput(profile, origins)
     remark = profiles.errno_by_name(data)
     if remark is not None:
         hint = "--runtime podman takes it" if is_runtimes else "scf resolve-profile resolves it"
@@ -212,3 +195,12 @@ def profile_in(data: bytes, name: str, caps: str | None = None, is_runtimes: boo
         raise program.ToolError(misread[0].describe())
     tell_unread(data, name, is_strict)
     return ProfileInput(data)
+
+
+def resolved(value: Any, setting: engines.Setting, keeps_first: bool = False) -> ProfileInput:
+    """The profile that an engine makes of a profile's value; on request without later answers to a syscall. Raises
+    Refused."""
+    resolver = engines.Resolver(setting)
+    profile = resolver.resolved(value, keeps_first)
+    return ProfileInput(DerivedProfile(engines.to_bytes(profile)), resolver.origins, profile=profile,
+                        notes=resolver.notes)

@@ -12,7 +12,7 @@ import os
 import types
 from collections.abc import Iterator, Sequence
 
-from ..base import program
+from ..base import inputs, program
 from ..base.values import Any, dataclass, replace
 from ..model import architectures, libseccomp, profiles, tables
 from ..model.answers import MAX_ERRNO, Answer
@@ -272,8 +272,9 @@ class _Application:
                 data.absent = {**data.absent, architecture: absent}
         return data
 
-    def run(self, profile: dict[str, Any], origins: Sequence[Origin]) -> ProfileInput:
+    def run(self, resolved: ProfileInput) -> ProfileInput:
         """A resolved profile as the runtime is given it. Raises Refused."""
+        profile, origins = resolved.profile, resolved.origins or ()
         self.check_action(profile["defaultAction"], profile.get("defaultErrnoRet"), "the default")
         if self.is_runc:
             # a supervisor answers NOTIFY's calls
@@ -330,10 +331,11 @@ def _refuse_engines(seccomp: Any, program_name: str) -> None:
                       f"{engine} --runtime {program_name}` for {engine} with {program_name}")
 
 
-def setting_of(runtime: Runtime, caps: str | None = None, machine: str | None = None) -> Setting:
+def setting_of(runtime: Runtime | None, caps: str | None = None, machine: str | None = None) -> Setting:
     """The container that a runtime's engine resolves a profile for: by default with the engine's capabilities, on this
     machine, and on this kernel."""
-    return engines.setting_of(runtime.engine or "none" if caps is None else caps, runtime.engine, machine)
+    engine = None if runtime is None else runtime.engine
+    return engines.setting_of(engine or "none" if caps is None else caps, engine, machine)
 
 
 def applied(value: Any, name: str, setting: Setting | None = None, keeps_first: bool = False) -> ProfileInput:
@@ -342,25 +344,20 @@ def applied(value: Any, name: str, setting: Setting | None = None, keeps_first: 
     engine before it, refuses it or reads it otherwise than it is spelled."""
     runtime = RUNTIMES[name]
     setting = setting or setting_of(runtime)
-    notes: list[str] = []
     is_config = isinstance(value, dict) and value.get("linux") is not None
     if is_config and value.get("defaultAction") is not None:
         raise Refused("both defaultAction and linux are at the top: is it a profile or a config.json?")
     if is_config or setting.engine is None:
         # of a whole config.json the engine has done its part, and the other members aren't read
         setting = replace(setting, engine=None, ignored=None)
-    resolver = engines.Resolver(setting, notes.append)
-    if setting.engine is None:
-        _refuse_engines(resolver.seccomp_of(value), runtime.program)
-    resolved = resolver.resolved(value)
-    if keeps_first:
-        resolver.keep_first(resolved)
-    profile = _Application(runtime, setting.native).run(resolved, resolver.origins)
-    remarks = list(profile.remarks)
-    if setting.engine is not None and setting.source is not None:
-        names = ", ".join(capability[4:] for capability in setting.capabilities) or "none"
-        remarks.append(f"resolved for the capabilities of {setting.source}: {names}")
-    return replace(profile, remarks=remarks, notes=list(dict.fromkeys([*notes, *profile.notes])))
+        _refuse_engines(engines.seccomp_of(value), runtime.program)
+    resolved = profile_inputs.resolved(value, setting, keeps_first)
+    given = _Application(runtime, setting.native).run(resolved)
+    names = ", ".join(capability[4:] for capability in setting.capabilities) or "none"
+    of_source = setting.engine is not None and setting.source is not None
+    remarks = [*given.remarks, *[f"resolved for the capabilities of {setting.source}: {names}"] * of_source]
+    notes = dict.fromkeys([*resolved.notes[:engines.MAX_NOTES], *given.notes])
+    return replace(given, remarks=remarks, notes=list(notes))
 
 
 def as_read(value: dict[str, Any], judged: tables.Tables) -> tuple[bytes, tables.Tables]:
@@ -372,57 +369,60 @@ def as_read(value: dict[str, Any], judged: tables.Tables) -> tuple[bytes, tables
     return given.data, replace(judged, stub=given.stub)
 
 
-def applied_in(data: bytes, path: str, name: str, setting: Setting, is_strict: bool | None = False) -> ProfileInput:
-    """The profile that was read of a file, as a runtime is given it; ends the tool where it refuses it, or if strict
-    for members that nothing reads; without a word on these if that is None."""
+def applied_in(data: bytes, path: str, name: str | None, setting: Setting,
+               is_strict: bool | None = False) -> ProfileInput:
+    """The profile that was read of a file, as a runtime is given it, or without one as an engine resolves it; ends the
+    tool where it refuses it, or if strict for members that nothing reads; without a word on these if that is None."""
     data = profile_inputs.plain(data, path)
     try:
-        given = applied(engines.parse_json(data), name, setting)
+        value = engines.parse_json(data)
+        given = profile_inputs.resolved(value, setting, True) if name is None else applied(value, name, setting)
     except Refused as why:
-        raise program.ToolError(f"{path}: {why}") from why
-    if is_strict is not None:
+        raise program.ToolError(f"{inputs.label(path) if name is None else path}: {why}") from why
+    if name is not None and is_strict is not None:
         profile_inputs.tell_unread(data, path, is_strict)
     return given
 
 
-def is_made(options: Any) -> bool:
-    """Whether an engine or a runtime makes another profile of the one that a command line names."""
-    return options.runtime in RUNTIMES or options.caps is not None
-
-
-def check_words(options: Any) -> None:
-    """Refuses words about a profile that don't go together."""
-    runtime = RUNTIMES.get(options.runtime)
-    if options.machine is not None and options.caps is None and (runtime is None or runtime.engine is None):
+def words_of(options: Any) -> tuple[Runtime | None, str | None, str | None]:
+    """The runtime, the capabilities and the machine by which a command line has profiles read. Refuses words about a
+    profile that don't go together."""
+    name, caps, machine = (getattr(options, word, None) for word in ("runtime", "caps", "machine"))
+    runtime = RUNTIMES.get(name)
+    has_engine = runtime is not None and runtime.engine is not None
+    if machine is not None and caps is None and not has_engine:
         raise program.ToolError("--machine goes with an engine's profile: give --caps, or --runtime docker or podman, "
                                 "too")
-    if options.caps is not None and options.runtime is not None and (runtime is None or runtime.engine is None):
-        how = "" if runtime is None else \
-            f": `scf resolve-profile --runtime {runtime.name} --engine .. --caps ..` makes it"
-        raise program.ToolError("--caps resolves an engine's profile, and --runtime "
-                                f"{options.runtime} takes a resolved one{how}")
+    if caps is not None and name is not None and not has_engine:
+        how = "" if runtime is None else f": `scf resolve-profile --runtime {name} --engine .. --caps ..` makes it"
+        raise program.ToolError(f"--caps resolves an engine's profile, and --runtime {name} takes a resolved one{how}")
+    return runtime, caps, machine
 
 
-def text_of(options: Any) -> bytes:
-    """The text of the profile that a command line names. Of a text that is too long scf says so, if it gets it."""
-    check_words(options)
-    return profile_inputs.read_text(options.profile, "profile" if is_made(options) else None)
+def text_of(name: str, options: Any) -> bytes:
+    """The text of a profile. Of a text that is too long scf says so, if it gets it."""
+    return profile_inputs.read_text(name, None if words_of(options)[:2] == (None, None) else "profile")
 
 
-def input_in(data: bytes, options: Any, is_strict: bool | None = False) -> ProfileInput:
-    """The profile in what was read of the input that a command line names: with `--runtime` as that runtime reads it,
-    and what is to be known of that is printed."""
-    runtime = RUNTIMES.get(options.runtime)
+def input_in(data: bytes, name: str, options: Any, is_strict: bool | None = False) -> ProfileInput:
+    """The profile in what was read of an input, as a command line says that it is read; what is to be known of that is
+    printed. If `is_strict` is None, nothing is said of members that nothing reads, nor of those that only engines do.
+    """
+    runtime, caps, machine = words_of(options)
+    if runtime is None and caps is None:
+        given = ProfileInput(data) if is_strict is None else profile_inputs.profile_in(data, name, False, is_strict)
+        return given.read_by(getattr(options, "runtime", None))
+    given = applied_in(data, name, runtime and runtime.name, setting_of(runtime, caps, machine), is_strict)
     if runtime is None:
-        given = profile_inputs.profile_in(data, options.profile, options.caps, False, bool(is_strict), options.machine)
-        return given.read_by(options.runtime)
-    setting = setting_of(runtime, options.caps, options.machine)
-    given = applied_in(data, options.profile, runtime.name, setting, is_strict)
+        more = "" if machine is None else f" --machine {machine}"
+        given = replace(given, notes=(), remarks=[
+            f"{inputs.label(name)} is resolved as by resolve-profile --keep-first --caps {caps}{more}, which says what "
+            f"is left out; entries that remain: {len(given.profile['syscalls'])}"])
     program.say(*given.describe())
     return given
 
 
-def with_profile(options: Any, name: str) -> Any:
-    """The options of a command line that names this profile."""
-    return types.SimpleNamespace(**{"runtime": None, "caps": None, "machine": None, "strict": False,
-                                    **(vars(options) if options else {}), "profile": name})
+def read_profile(name: str, caps: str | None = None) -> ProfileInput:
+    """A profile by its words, or an engine's for a container with these capabilities."""
+    data = profile_inputs.read_text(name, None if caps is None else "engine's profile")
+    return input_in(data, name, types.SimpleNamespace(caps=caps))

@@ -187,7 +187,7 @@ class Drawn(Case):
         for text, (made, refused) in zip(texts, answers):
             try:
                 value = engines.parse_json(text.encode())
-                resolved = as_go_prints(engines.Resolver(setting, lambda _: None).resolved(value))
+                resolved = as_go_prints(engines.Resolver(setting).resolved(value))
             except profiles.Refused as why:
                 resolved = str(why)
             yield text, resolved, f"refused: {refused}" if refused else as_go_prints(made)

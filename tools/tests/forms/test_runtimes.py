@@ -141,7 +141,7 @@ class Runtimes(Case):
         """What --keep-first makes of a profile is by its words what runtimes load."""
         for given in (profile(entry("mkdir", action=ERRNO), entry("mkdir"), entry("mkdir", action=TRAP)),
                       profile(entry("mkdir", action=ERRNO, errnoRet=2), entry("mkdir"), entry("mkdir", action=ERRNO))):
-            first_profile, _ = engines.resolve(given, engines.Setting((), (0, 0), False), lambda _: None, True)
+            first_profile = engines.Resolver(engines.Setting((), (0, 0))).resolved(given, True)
             self.assertEqual(len(first_profile["syscalls"]), 2)
             for runtime in ("runc", "crun"):
                 filters, why = filters_of(runtime, given)
@@ -313,8 +313,7 @@ class Runtimes(Case):
                 continue
             applied = runtimes.applied(engines.parse_json(inputs.read_input(path, "engine's profile")), name)
             # as the engine itself hands it on, its entries without effect among them
-            resolver = engines.Resolver(runtimes.setting_of(applied.runtime), lambda _: None)
-            handed_on = resolver.resolved(json.loads(bytes_of(path)))
+            handed_on = engines.Resolver(runtimes.setting_of(applied.runtime)).resolved(json.loads(bytes_of(path)))
             self.assertEqual(self.compared(name, handed_on, applied)[:2], ("same", name == "docker"), name)
 
     def test_a_call_above_the_stub_that_is_allowed(self):
@@ -538,7 +537,7 @@ class VerifyProcess(Case):
 
     def test_the_default_profile_of_docker(self):
         self.skip_if(not os.path.exists(MOBY), "no profile of Docker's")
-        engine = engines.Resolver(runtimes.setting_of(runtimes.RUNTIMES["docker"]), lambda _: None)
+        engine = engines.Resolver(runtimes.setting_of(runtimes.RUNTIMES["docker"]))
         handed_on = engine.resolved(json.loads(bytes_of(MOBY)))
         with container("runc", config(handed_on)) as (process, why):
             self.assertIsNotNone(process, why)
@@ -575,7 +574,7 @@ class VerifyProcess(Case):
         for runtime, engine in (("runc", "docker"), ("crun", "podman")):
             for capabilities in (["CAP_CHOWN", "CAP_SYS_TIME"], ["CAP_BLOCK_SUSPEND"], []):
                 setting = engines.Setting(capabilities, (6, 1), False, engine)
-                resolved = engines.Resolver(setting, lambda _: None).resolved(given)
+                resolved = engines.Resolver(setting).resolved(given)
                 with container(runtime, config(resolved, capabilities)) as (process, why):
                     self.assertIsNotNone(process, why)
                     out = self.begins(0, "same", self.verify(process, given, "--runtime", engine))
