@@ -412,6 +412,8 @@ def input_in(data: bytes, name: str, options: Any, is_strict: bool | None = Fals
     if runtime is None and caps is None:
         given = ProfileInput(data) if is_strict is None else profile_inputs.profile_in(data, name, False, is_strict)
         return given.read_by(getattr(options, "runtime", None))
+    # (what is no profile of an engine's is told before its capabilities)
+    data = data if runtime is not None else profile_inputs.plain(data, name)
     given = applied_in(data, name, runtime and runtime.name, setting_of(runtime, caps, machine), is_strict)
     if runtime is None:
         more = "" if machine is None else f" --machine {machine}"
