@@ -160,54 +160,55 @@ def printed(profile: dict[str, Any]) -> str:
     return dumped(profile, 4) + "\n"
 
 
-# A member: the object that has it, its name, its value, and its kind, None if no engine reads it.
-Member = tuple[str, str, Any, Any]
+# A member that the engine doesn't read: the object that has it, its name, and whether another engine reads it.
+Unread = tuple[str, str, bool]
 
 
-def checked(value: Any, kind: Any, where: str, unread: Sequence[str] = ()) -> Iterator[Member]:
-    """The members of an object and of those in it. Refuses a value that isn't an object, a list, a string, a number or
-    a kernel version as the engines read it, and an object that they read otherwise than it is spelled. A member that
-    is null is absent."""
+def read(value: Any, kind: Any, where: str, unread: Sequence[str], found: list[Unread]) -> Any:
+    """A value as an engine reads it: without members that are null, or that only another engine reads; what it doesn't
+    read is added to a list. Refuses a value that isn't an object, a list, a string, a number or a kernel version as the
+    engines read it, and an object that they read otherwise than it is spelled."""
     if isinstance(kind, dict):
         if not isinstance(value, dict):
             raise Refused(f"{where} isn't an object")
+        members = {}
         for name, member in value.items():
             if name not in kind:
                 read_as = next((known for known in kind if profiles.folded(known) == profiles.folded(name)), None)
                 if read_as is not None:
                     raise Refused(profiles.Misread(where, name, read_as).describe())
-            yield where, name, member, kind.get(name)
-            if name in kind and member is not None and name not in unread:
-                yield from checked(member, kind[name], where_in(where, name), unread)
-    elif isinstance(kind, list):
+                found.append((where, name, False))
+            elif member is not None and name in unread:
+                found.append((where, name, True))
+            if member is not None and name not in unread:
+                members[name] = member if name not in kind else \
+                    read(member, kind[name], where_in(where, name), unread, found)
+        return members
+    if isinstance(kind, list):
         are_texts = kind == [TEXT_TYPE]
         if not isinstance(value, list) or are_texts and not all(isinstance(item, str) for item in value):
             raise Refused(f"{where} isn't a list" + " of strings" * are_texts)
-        for index, element in enumerate(() if are_texts else value):
-            yield from checked(element, kind[0], where_in(where, index), unread)
-    elif kind == NUMBER_TYPE:
+        return value if are_texts else [read(element, kind[0], where_in(where, index), unread, found)
+                                        for index, element in enumerate(value)]
+    if kind == NUMBER_TYPE:
         if type(value) is not int or not 0 <= value < 1 << 64:
             raise Refused(f"{where} isn't an integer from 0 to 2^64-1")
     elif not isinstance(value, str):
         raise Refused(f"{where} " + ("isn't a string" if kind == TEXT_TYPE else "isn't a kernel version such as 4.8"))
     elif kind == VERSION_TYPE:
         version_of(value, where)
+    return value
 
 
 def seccomp_of(value: Any) -> Any:
     """The seccomp object of a profile, or of a whole config.json."""
     if isinstance(value, dict) and value.get("defaultAction") is None and value.get("linux") is not None:
-        list(checked(value, {"linux": {"seccomp": {}}}, "the profile"))
+        read(value, {"linux": {"seccomp": {}}}, "the profile", (), [])
         return value["linux"].get("seccomp")
     return value
 
 
-def members_of(value: dict[str, Any] | None, setting: Setting) -> dict[str, Any]:
-    """The members of an object that aren't null and that the engine reads."""
-    return {name: member for name, member in (value or {}).items() if member is not None and name not in setting.unread}
-
-
-def version_of(text: str, where: str) -> tuple[int, int]:
+def version_of(text: str, where: str = "") -> tuple[int, int]:
     """The version of a kernel that moby reads (KernelVersion.UnmarshalJSON); of an empty one all kernels are."""
     if not text:
         return 0, 0
@@ -218,10 +219,9 @@ def version_of(text: str, where: str) -> tuple[int, int]:
     return version
 
 
-def why_left_out(entry: dict[str, Any], setting: Setting, where: str) -> str | None:
+def why_left_out(entry: dict[str, Any], setting: Setting) -> str | None:
     """Why the engines leave an entry out, or None where they keep it."""
-    excludes, includes = (members_of(entry.get(name), setting) for name in ("excludes", "includes"))
-    held = setting.capabilities
+    excludes, includes, held = entry.get("excludes", {}), entry.get("includes", {}), setting.capabilities
     without = [capability for capability in excludes.get("caps", ()) if capability in held]
     lacking = [capability for capability in includes.get("caps", ()) if capability not in held]
     arches, most, least = includes.get("arches"), excludes.get("minKernel"), includes.get("minKernel")
@@ -229,13 +229,13 @@ def why_left_out(entry: dict[str, Any], setting: Setting, where: str) -> str | N
         return f"not on {setting.machine}"
     if without:
         return f"only without {without[0]}"
-    if most is not None and setting.kernel >= version_of(most, f"{where}: excludes: minKernel"):
+    if most is not None and setting.kernel >= version_of(most):
         return f"only below kernel {most}" if most else "for no kernel, since excludes: minKernel is empty"
     if arches and setting.machine not in arches:
         return f"only on {excerpts(arches)}"
     if lacking:
         return f"only with {excerpts(lacking)}"
-    if least is not None and setting.kernel < version_of(least, f"{where}: includes: minKernel"):
+    if least is not None and setting.kernel < version_of(least):
         return f"only from kernel {least} on"
     return None
 
@@ -294,36 +294,33 @@ class Resolver:
         if number is not None:
             members["errnoRet"] = number
         if entry.get("args"):
-            members["args"] = [members_of(condition, self.setting) for condition in entry["args"]]
+            members["args"] = entry["args"]
         if self.setting.keeps_comments:
             members["comment"] = entry["comment"]
         return members if names else None
 
-    def tell_unread(self, members: Sequence[Member]) -> None:
-        """Reports the members that nothing reads, and refuses those that may be conditions; of those that only other
+    def _tell_unread(self, found: Sequence[Unread]) -> None:
+        """Notes the members that nothing reads, and refuses those that may be conditions; of those that only other
         engines read each once."""
         of_others: dict[str, str] = {}
-        for where, name, member, kind in members:
-            is_ignored = self.setting.ignored is None or name in self.setting.ignored
-            if kind is None and where.startswith("entry ") and not is_ignored:
+        for where, name, is_known in found:
+            if is_known:
+                of_others.setdefault(name, where)
+            elif where.startswith("entry ") and self.setting.ignored is not None and name not in self.setting.ignored:
                 raise Refused(f"{where} has a member '{excerpt(name)}', which no engine reads, and which may be a "
                               f"condition: --ignore {excerpt(name)} ignores it")
-            if kind is None:
+            else:
                 self.notes.append(f"{where}: nothing reads '{excerpt(name)}'")
-            elif member is not None and name in self.setting.unread:
-                of_others.setdefault(name, where)
-        for name, where in of_others.items():
-            self.notes.append(f"{where}: {self.setting.engine} doesn't read '{name}'")
+        self.notes += (f"{where}: {self.setting.engine} doesn't read '{name}'" for name, where in of_others.items())
 
     def resolved(self, value: Any, keeps_first: bool = False) -> dict[str, Any]:
         """The profile that the engine makes in this setting; on request without later answers to a syscall."""
-        value = seccomp_of(value)
+        value, found = seccomp_of(value), []
         where = "linux.seccomp" if value is None else "the profile"
-        members = list(checked(value, SECCOMP_MEMBERS, where, self.setting.unread))
-        top = members_of(value, self.setting)
+        top = read(value, SECCOMP_MEMBERS, where, self.setting.unread, found)
         if not top.get("defaultAction"):
             raise Refused("there is no defaultAction")
-        self.tell_unread(members)
+        self._tell_unread(found)
         profile = {"defaultAction": top["defaultAction"]}
         number = self.errno_of(top, "defaultErrno", "defaultErrnoRet", "the profile")
         if number is not None:
@@ -333,9 +330,8 @@ class Resolver:
             profile["architectures"] = architectures
         profile.update((name, top[name]) for name in PASSED_ON if name in top)
         profile["syscalls"] = []
-        for at, raw_entry in enumerate(top.get("syscalls", [])):
-            entry = members_of(raw_entry, self.setting)
-            why = why_left_out(entry, self.setting, f"entry {at}")
+        for at, entry in enumerate(top.get("syscalls", [])):
+            why = why_left_out(entry, self.setting)
             made = None if why else self.entry_of(entry, f"entry {at}")
             origin = Origin(at, excerpts([entry["name"]] if entry.get("name") else entry.get("names", [])))
             if made is None:
@@ -355,8 +351,8 @@ class Resolver:
                  for entry in profile["syscalls"] if not entry.get("args")]
         first = {name: answer for entry, answer in reversed(plain) if answer != default for name in entry["names"]}
         for entry, answer in plain:
-            self.notes += (f"{excerpt(name)} left out of an entry with {excerpt(entry['action'])}: another entry has it "
-                           f"with {first[name].oci}" for name in entry["names"] if first.get(name, answer) != answer)
+            self.notes += (f"{excerpt(name)} left out of an entry with {excerpt(entry['action'])}: another entry has "
+                           f"it with {first[name].oci}" for name in entry["names"] if first.get(name, answer) != answer)
             entry["names"] = [name for name in entry["names"] if first.get(name, answer) == answer]
         self.origins = [origin for entry, origin in zip(profile["syscalls"], self.origins) if entry["names"]]
         profile["syscalls"] = [entry for entry in profile["syscalls"] if entry["names"]]
