@@ -363,8 +363,7 @@ def capabilities_of(text: str) -> list[str]:
     Refused where there is no such capability."""
     names: list[str] = []
     for word in filter(None, (word.strip() for word in text.split(","))):
-        name = word.upper()
-        name = name[4:] if name.startswith("CAP_") else name
+        name = word.upper().removeprefix("CAP_")
         if word not in SETS and name not in CAPABILITIES:
             raise Refused(f"'{word}' isn't a capability")
         names += SETS.get(word, [name])

@@ -108,10 +108,6 @@ def _of_decimals(text: str) -> bytes | None:
     return c_arrays.packed(values) or None
 
 
-def _of_array(text: str) -> bytes | None:
-    return c_arrays.bytes_in(text) if c_arrays.looks_like_array(text) else None
-
-
 def _of_assembler(text: str) -> bytes | None:
     if assembler.first_word(text) not in assembler.MNEMONICS:
         return None
@@ -133,8 +129,9 @@ def _of_log(text: str) -> bytes | None:
     return filters.pop()
 
 
-FORMS = ((HEXADECIMAL_TEXT, _of_hexadecimal), (DECIMALS, _of_decimals), (ARRAY, _of_array), (ASSEMBLER, _of_assembler),
-         ("a strace log", _of_log))
+FORMS = ((HEXADECIMAL_TEXT, _of_hexadecimal), (DECIMALS, _of_decimals),
+         (ARRAY, lambda text: c_arrays.bytes_in(text) if c_arrays.looks_like_array(text) else None),
+         (ASSEMBLER, _of_assembler), ("a strace log", _of_log))
 
 
 def text_of(data: bytes) -> str | None:

@@ -18,21 +18,17 @@ def is_process(word: str) -> bool:
     return word.startswith(inputs.PROCESS)
 
 
-def process_of(word: str, is_forced: bool = False, is_json: bool = False) -> Inspection:
-    """The stacks of the process that `pid:N` names, each with its threads. Ends the tool where they can't be read."""
-    from scfhost import processes  # pylint: disable=import-outside-toplevel
-
-    kernel, number = processes.Kernel(), processes.number_in(word.removeprefix(inputs.PROCESS))
-    return processes.read_or_end(lambda: processes.look_at_process(
-        kernel, processes.process_of(kernel, number), is_forced=is_forced), True, is_json)
-
-
 def read(word: str, options: Any = None) -> Filter | ProfileInput | Inspection:
-    """What a word names, by its beginning and else by the contents of the file. `options` say how a profile is read
-    (`runtime`, `caps`, `machine`, `strict`) and whether threads are stopped by force (`force`), as far as the command
-    has that."""
+    """What a word names, by its beginning and else by the contents of the file; of a process the stacks. `options` say
+    how a profile is read (`runtime`, `caps`, `machine`, `strict`), and how a process (`force`, `json`), as far as the
+    command has that."""
     if is_process(word):
-        given = process_of(word, *(getattr(options, name, False) for name in ("force", "json")))
+        from scfhost import processes  # pylint: disable=import-outside-toplevel
+
+        kernel, number = processes.Kernel(), processes.number_in(word.removeprefix(inputs.PROCESS))
+        is_forced, is_json = (getattr(options, name, False) for name in ("force", "json"))
+        given = processes.read_or_end(lambda: processes.look_at_process(
+            kernel, processes.process_of(kernel, number), is_forced=is_forced), True, is_json)
         for at, stack in enumerate(given.stacks):
             for bpf_filter in stack.named:
                 inputs.keep(f"{word} stack {at} {bpf_filter.name}", bpf_filter.data)
