@@ -6,11 +6,11 @@ they find is only said if it is the fault that scf found.
 from __future__ import annotations
 
 import json
-from collections.abc import Iterator, Sequence
+from collections.abc import Collection, Iterator, Sequence
 
 from ..base import inputs, json_places, output
 from ..base.json_places import Path
-from ..base.values import Any
+from ..base.values import Any, NoReturn
 from ..model import architectures, profiles
 from ..model.bpf import LONGEST_STACK, MORE_OF_OLDER
 from ..model.calls import Call
@@ -41,89 +41,84 @@ class MemberFault(Exception):
     said."""
 
 
-def _check(value: object, path: Path, what: str) -> None:
-    of_kind, least = KINDS_OF_VALUES[what]
-    if type(value) is not of_kind or type(value) is int and not least <= value < NUMBER_END:
-        raise MemberFault("Kind", path, f"is {_shown(value)}, not {what}")
+class Value:
+    """A value in a profile, and its path. Raises MemberFault if it isn't of this kind."""
+
+    def __init__(self, value: Any, path: Path, what: str):
+        self.value, self.path = value, path
+        of_kind, least = KINDS_OF_VALUES[what]
+        if type(value) is not of_kind or of_kind is int and not least <= value < NUMBER_END:
+            self.fail("Kind", f"is {_shown(value)}, not {what}")
+
+    def fail(self, kind: str, says: str, *steps: str) -> NoReturn:
+        raise MemberFault(kind, [*self.path, *steps], says)
+
+    def member(self, name: str, what: str, is_needed: bool = False) -> Value | None:
+        """A member of this kind; None where it lacks and may."""
+        value = self.value.get(name)
+        if value is None and is_needed:
+            self.fail("Missing", f"has no {name}")
+        return None if value is None else Value(value, [*self.path, name], what)
+
+    def elements(self, name: str, what: str) -> Iterator[Value]:
+        """The elements of a member that is an array, each of this kind."""
+        listed = self.member(name, "an array")
+        return (Value(item, [*listed.path, at], what) for at, item in enumerate(listed.value)) if listed else iter(())
+
+    def word(self, name: str, words: Collection[str], kind: str) -> str:
+        member = self.member(name, "a string", True)
+        if member.value not in words:
+            member.fail(kind, f"is {_shown(member.value)}, which is none")
+        return member.value
+
+    def answer(self, action_name: str, errno_name: str, reading: str) -> None:
+        action, errno = self.word(action_name, OCI_ACTIONS, "Action"), self.member(errno_name, "a whole number")
+        if errno and action not in profiles.WITH_ERRNO and (action, reading) != (TRAP, SANDBOX):
+            errno.fail("Errno", f"is {_shown(errno.value)}, and {action} takes none")
+        if errno and not 0 <= errno.value <= MOST_ERRNO:
+            errno.fail("ErrnoRange", f"is {_shown(errno.value)}")
+
+    def of_no_engine(self, *names: str) -> None:
+        for name in names:
+            if self.value.get(name) not in (None, {}, []):
+                self.fail("EngineForm", f"is {_shown(self.value[name])}", name)
 
 
-def _member(holder: dict[str, Any], path: Path, name: str, what: str, is_needed: bool = False) -> Any:
-    """A member of this kind; None where it lacks and may."""
-    value = holder.get(name)
-    if value is not None:
-        _check(value, [*path, name], what)
-    elif is_needed:
-        raise MemberFault("Missing", path, f"has no {name}")
-    return value
-
-
-def _word(holder: dict[str, Any], path: Path, name: str, words: tuple[str, ...], kind: str) -> None:
-    value = _member(holder, path, name, "a string", True)
-    if value not in words:
-        raise MemberFault(kind, [*path, name], f"is {_shown(value)}, which is none")
-
-
-def _errno(holder: dict[str, Any], path: Path, name: str, action: str, reading: str) -> None:
-    value = _member(holder, path, name, "a whole number")
-    if value is not None and action not in profiles.WITH_ERRNO and (action, reading) != (TRAP, SANDBOX):
-        raise MemberFault("Errno", [*path, name], f"is {_shown(value)}, and {action} takes none")
-    if value is not None and not 0 <= value <= MOST_ERRNO:
-        raise MemberFault("ErrnoRange", [*path, name], f"is {_shown(value)}")
-
-
-def _engine_member(holder: dict[str, Any], path: Path, name: str) -> None:
-    if holder.get(name) not in (None, {}, []):
-        raise MemberFault("EngineForm", [*path, name], f"is {_shown(holder[name])}")
-
-
-def _entry(entry: Any, path: Path, reading: str) -> None:
-    _check(entry, path, "an object")
-    for name in ("includes", "excludes"):
-        _engine_member(entry, path, name)
-    names = _member(entry, path, "names", "an array", True)
-    if not names:
-        raise MemberFault("EmptyNames", [*path, "names"], "is empty")
-    for at, entry_name in enumerate(names):
-        _check(entry_name, [*path, "names", at], "a string")
-    _word(entry, path, "action", OCI_ACTIONS, "Action")
-    _errno(entry, path, "errnoRet", entry["action"], reading)
+def _check_entry(entry: Value, reading: str) -> None:
+    entry.of_no_engine("includes", "excludes")
+    if not entry.member("names", "an array", True).value:
+        entry.fail("EmptyNames", "is empty", "names")
+    list(entry.elements("names", "a string"))
+    entry.answer("action", "errnoRet", reading)
     seen: set[int] = set()
-    for at, condition in enumerate(_member(entry, path, "args", "an array") or ()):
-        here = [*path, "args", at]
-        _check(condition, here, "an object")
-        index = _member(condition, here, "index", "a whole number", True)
-        if not 0 <= index < 6:
-            raise MemberFault("Index", [*here, "index"], f"is {_shown(index)}")
-        _word(condition, here, "op", tuple(HOLDS), "Operator")
-        _member(condition, here, "value", "a whole number from 0 to 2^64-1", True)
-        _member(condition, here, "valueTwo", "a whole number from 0 to 2^64-1")
-        if index in seen:
-            raise MemberFault("RepeatedIndex", [*here, "index"],
-                              f"is {_shown(index)}, as in an earlier condition of this entry")
-        seen.add(index)
+    for condition in entry.elements("args", "an object"):
+        index = condition.member("index", "a whole number", True)
+        if not 0 <= index.value < 6:
+            index.fail("Index", f"is {_shown(index.value)}")
+        condition.word("op", HOLDS, "Operator")
+        condition.member("value", "a whole number from 0 to 2^64-1", True)
+        condition.member("valueTwo", "a whole number from 0 to 2^64-1")
+        if index.value in seen:
+            index.fail("RepeatedIndex", f"is {_shown(index.value)}, as in an earlier condition of this entry")
+        seen.add(index.value)
 
 
-def _profile(value: Any, reading: str) -> Path:
+def _path_of(value: Any, reading: str) -> Path:
     """The path of the seccomp object of a profile or a whole config.json. Raises the fault that scf finds first."""
-    _check(value, [], "an object")
-    top, path = value, []
+    top = Value(value, [], "an object")
     if value.get("defaultAction") is None and value.get("linux") is not None:
-        linux = _member(value, [], "linux", "an object")
-        if linux.get("seccomp") is None:
-            raise MemberFault("Missing", ["linux"], "has no seccomp: the container isn't confined")
-        top, path = linux["seccomp"], ["linux", "seccomp"]
-    _check(top, path, "an object")
-    _word(top, path, "defaultAction", OCI_ACTIONS, "Action")
-    _errno(top, path, "defaultErrnoRet", top["defaultAction"], reading)
-    listed = _member(top, path, "architectures", "an array") or ()
-    for at, listed_name in enumerate(listed):
-        _check(listed_name, [*path, "architectures", at], "a string")
+        linux = top.member("linux", "an object")
+        if linux.value.get("seccomp") is None:
+            linux.fail("Missing", "has no seccomp: the container isn't confined")
+        top = linux.member("seccomp", "an object")
+    top.answer("defaultAction", "defaultErrnoRet", reading)
+    listed = [name.value for name in top.elements("architectures", "a string")]
     if listed and architectures.NATIVE not in listed:
-        raise MemberFault("NoX8664", [*path, "architectures"], f"lacks {architectures.NATIVE}")
-    _engine_member(top, path, "archMap")
-    for at, entry in enumerate(_member(top, path, "syscalls", "an array") or ()):
-        _entry(entry, [*path, "syscalls", at], reading)
-    return path
+        top.fail("NoX8664", f"lacks {architectures.NATIVE}", "architectures")
+    top.of_no_engine("archMap")
+    for entry in top.elements("syscalls", "an object"):
+        _check_entry(entry, reading)
+    return top.path
 
 
 def _of_member(fault: Fault, data: bytes) -> Iterator[str]:
@@ -135,7 +130,7 @@ def _of_member(fault: Fault, data: bytes) -> Iterator[str]:
         # (a number that scf doesn't take is none)
         value = json.loads(text, parse_int=lambda digits: int(digits) if len(digits) <= LONGEST_NUMBER
                            else float("nan"))
-        path = _profile(value, profiles.reading_of(data))
+        path = _path_of(value, profiles.reading_of(data))
         entries = [fault.numbers[name] for name in ("first", "second") if fault.kind == "Conflict"]
         places = [json_places.place_of(text, [*path, "syscalls", entry]) for entry in entries]
         if places and not isinstance(data, DerivedProfile) and None not in places:
