@@ -1,20 +1,21 @@
-"""Profiles as commands take them: Kubernetes' objects, engines' own with --caps; and what is named and refused."""
+"""Profiles as commands take them: Kubernetes' objects, printed, too, engines' own with --caps; and what is refused."""
 import json
 import os
 import subprocess
 import unittest
 
 from support.common import Case, completed, filter_of, profile_of, sample, tool
-from support.oci import ALLOW, ERRNO
+from support.oci import ALLOW, ERRNO, condition, entry
 from scftools.model import profiles
+from scftools.cli.words import is_object_name
 from scftools.forms import kubernetes
 
 # As the documentation of the Security Profiles Operator has them.
 YAML = sample("operator.yaml")
 SPEC = {"defaultAction": ERRNO, "architectures": ["SCMP_ARCH_X86_64"], "syscalls": [
-    {"action": ALLOW, "names": ["read", "write", "exit_group"]},
-    {"action": ALLOW, "names": ["socket"], "args": [{"index": 0, "value": 40, "op": "SCMP_CMP_NE"}]}]}
+    entry("read", "write", "exit_group"), entry("socket", args=[{"index": 0, "value": 40, "op": "SCMP_CMP_NE"}])]}
 OBJECT = {"apiVersion": "security-profiles-operator.x-k8s.io/v1beta1", "kind": "SeccompProfile", "spec": SPEC}
+READS = {"defaultAction": ERRNO, "syscalls": [entry("read")]}
 HAS_YAML = any(os.path.exists(os.path.join(folder, "yaml")) for folder in kubernetes.YAML_FOLDERS)
 
 
@@ -22,19 +23,14 @@ class Unread(Case):
     """Members that nothing reads, which leave an entry without its conditions, or a profile without its entries."""
 
     def test_misspelt_members(self):
-        entry = {"names": ["socket"], "action": ALLOW, "args": [{"index": 0, "value": 40, "op": "SCMP_CMP_NE"}]}
-        misspelt = {"arg": ({"defaultAction": ERRNO, "syscalls": [SPEC["syscalls"][0], {
-                        **{name: value for name, value in entry.items() if name != "args"}, "arg": entry["args"]}]},
-                            "'arg' of entry 1; the nearest is 'args'"),
-                    "sycalls": ({"defaultAction": ALLOW, "sycalls": []},
-                                "'sycalls' of the profile; the nearest is 'syscalls'"),
-                    "mask": ({"defaultAction": ERRNO, "syscalls": [SPEC["syscalls"][0], {**entry, "args": [
-                        {**entry["args"][0], "mask": 1}]}]}, "'mask' of entry 1: args 0"),
-                    "several": ({"defaultAction": ERRNO, "syscalls": [{**entry, "args": [
-                        {**entry["args"][0], "mask": 1}]}], "x": 1},
-                                 "'x' of the profile, and of 1 more")}
+        first, with_mask = SPEC["syscalls"][0], entry("socket", args=[{**SPEC["syscalls"][1]["args"][0], "mask": 1}])
         allows = self.file("f.bpf", filter_of([0]))
-        for profile, says in misspelt.values():
+        for profile, says in (
+                ({"defaultAction": ERRNO, "syscalls": [first, entry("socket", arg=with_mask["args"])]},
+                 "'arg' of entry 1; the nearest is 'args'"),
+                ({"defaultAction": ALLOW, "sycalls": []}, "'sycalls' of the profile; the nearest is 'syscalls'"),
+                ({"defaultAction": ERRNO, "syscalls": [first, with_mask]}, "'mask' of entry 1: args 0"),
+                ({"defaultAction": ERRNO, "syscalls": [with_mask], "x": 1}, "'x' of the profile, and of 1 more")):
             remark = f": 'p.json': nothing reads the member {says}\n"
             self.file("p.json", profile)
             for words in (("ask", "--nr=0"), ("compare", allows), ("needs", self.file("log", "read() = 0\n"))):
@@ -142,6 +138,66 @@ class Kubernetes(Case):
             self.assertIn(says, self.run_tool("ask", self.file("o.json", {**OBJECT, "kind": kind}))[2])
 
 
+class Objects(Case):
+    """SeccompProfile objects that commands print."""
+
+    def test_what_is_printed(self):
+        """The object of the operator's documentation; members of a spec that it doesn't have aren't printed."""
+        profile = {**SPEC, "defaultErrnoRet": 1, "syscalls": [{**SPEC["syscalls"][0], "comment": "line 1"},
+                                                              SPEC["syscalls"][1]]}
+        text = kubernetes.printed(profile, "profile1")
+        self.assertEqual(json.loads(text), {**OBJECT, "metadata": {"name": "profile1"}})
+        self.assertEqual(json.loads(kubernetes.spec_of(text.encode())), SPEC)
+
+    def test_what_no_object_states(self):
+        call = entry("read")
+        for profile, says in (
+                ({**READS, "defaultErrnoRet": 38}, "the default has the errno 38, which a SeccompProfile can't state"),
+                ({**READS, "syscalls": [entry("read", action=ERRNO, errnoRet=0)]},
+                 "entry 0 has the errno 0, which a SeccompProfile can't state"),
+                ({**READS, "syscalls": [call, entry("read", args=[condition(0, "LE", 1 << 63)])]},
+                 "entry 1 compares with more than 2^63-1, which a SeccompProfile can't state"),
+                ({**READS, "defaultAction": "SCMP_ACT_X"}, "the default has an action that a SeccompProfile doesn't "
+                                                           "have")):
+            self.assertEqual(self.text_of_error(profiles.Refused, kubernetes.printed, profile, "a"), says)
+        self.is_refused("the default has the errno 38", "resolve-profile", "--kubernetes", "a",
+                        self.file("p.json", {**READS, "defaultErrnoRet": 38}))
+        for profile in (READS, {**READS, "defaultErrnoRet": 1}, {**READS, "defaultAction": "SCMP_ACT_LOG"},
+                        {**READS, "syscalls": [entry("read", action=ERRNO, errnoRet=38)]},
+                        {**READS, "syscalls": [entry("read", args=[condition(0, "LE", (1 << 63) - 1)])]}):
+            kubernetes.printed(profile, "a")
+
+    def test_names(self):
+        for name in ("a", "a-b.c0", "a" * 253):
+            self.assertTrue(is_object_name(name), name)
+        for name in ("", "A", "a_b", "-a", "a-", "a..b", "a.-b", "a" * 254, "a\n"):
+            self.assertFalse(is_object_name(name), name)
+
+    def test_each_prints_one(self):
+        """What a command prints is read again as what it prints without the option."""
+        log = self.file("log", "read(0, 1, 2) = 0\nsocket(AF_INET, 1, 0) = 3\n")
+        profile, filter_ = self.file("p.json", SPEC), self.file("f.bpf", filter_of([0, 1]))
+        for words in (("needs", "--profile", log, profile), ("profile-of", filter_), ("resolve-profile", profile)):
+            plain = self.run_tool(*words)
+            status, out, err = self.run_tool(words[0], "--kubernetes", "a.b", *words[1:])
+            self.assertEqual((status, err), (plain[0], plain[2]), words)
+            value = json.loads(out)
+            self.assertEqual((value["kind"], value["metadata"]), ("SeccompProfile", {"name": "a.b"}))
+            expected = {name: it for name, it in json.loads(plain[1]).items() if name != "defaultErrnoRet"}
+            self.assertEqual(value["spec"], expected, words)
+
+    def test_recordings(self):
+        """A recorded object is a log of what it allows."""
+        profile = self.file("p.json", READS)
+        yaml = [YAML, YAML.removeprefix("---\n")] if HAS_YAML else []
+        for name, text in enumerate([json.dumps(OBJECT), *yaml]):
+            status, out, err = self.run_tool("needs", self.file(str(name), text), profile)
+            self.assertEqual((status, [line.split()[1] for line in out.splitlines() if line[0] != "#"]),
+                             (1, ["write", "socket", "exit_group"]), (out, err))
+        status, _, err = self.run_tool("needs", self.file("o.json", {**OBJECT, "kind": "Pod"}), profile)
+        self.assertEqual((status, "it is a Kubernetes object of the kind Pod" in err), (2, True))
+
+
 # What the kernel logs of a syscall that a filter denied.
 DENIED_MOUNT = ("audit: type=1326 audit(1700000000.000:7): auid=0 uid=0 gid=0 ses=1 pid=9 comm=\"x\" exe=\"/x\" sig=0 "
                 "arch=c000003e syscall=165 compat=0 ip=0x7f0000000000 code=0x50000")
@@ -151,10 +207,8 @@ class Caps(Case):
     """--caps: what resolve-profile makes of an engine's profile, in each command."""
 
     ENGINE = {"defaultAction": ERRNO, "archMap": [{"architecture": "SCMP_ARCH_X86_64", "subArchitectures": []}],
-              "syscalls": [{"names": ["read", "exit_group"], "action": ALLOW},
-                           {"names": ["bpf"], "action": ALLOW, "includes": {"caps": ["CAP_BPF"]}},
-                           {"names": ["read"], "action": "SCMP_ACT_LOG"},
-                           {"names": ["mount"], "action": ALLOW, "includes": {"caps": ["CAP_SYS_ADMIN"]}}]}
+              "syscalls": [entry("read", "exit_group"), entry("bpf", includes={"caps": ["CAP_BPF"]}),
+                           entry("read", action="SCMP_ACT_LOG"), entry("mount", includes={"caps": ["CAP_SYS_ADMIN"]})]}
 
     def setUp(self):
         super().setUp()
@@ -184,12 +238,12 @@ class Caps(Case):
 
     def test_another_machine(self):
         """What an engine passes on there: the architectures and the entries of arm64 (moby's `arches`)."""
+        arm = ["arm64"]
         engine = self.file("m.json", {
             "defaultAction": ERRNO, "defaultErrnoRet": 1,
             "archMap": [{"architecture": "SCMP_ARCH_X86_64", "subArchitectures": []},
                         {"architecture": "SCMP_ARCH_AARCH64", "subArchitectures": ["SCMP_ARCH_ARM"]}],
-            "syscalls": [{"names": ["read"], "action": ALLOW, "includes": {"arches": ["arm64"]}},
-                         {"names": ["write"], "action": ALLOW, "excludes": {"arches": ["arm64"]}}]})
+            "syscalls": [entry("read", includes={"arches": arm}), entry("write", excludes={"arches": arm})]})
         words = ("--caps=none", "--machine=arm64")
         # numbers of asm/unistd_64.h of arm64
         for name, answer in (("read", "ALLOW 0 entry 0"), ("write", "ERRNO 1 default")):
@@ -226,8 +280,8 @@ class Caps(Case):
         wrong = {**OBJECT, "spec": {**SPEC, "defaultAction": "ALLOW"}}
         self.assertIn('# spec.defaultAction is "ALLOW", which is none\n',
                       self.run_tool("ask", "--nr=0", self.file("o.json", wrong))[1])
-        first = {"names": ["bpf"], "action": ALLOW, "includes": {"caps": ["CAP_BPF"]}}
-        engine = json.dumps({"defaultAction": ERRNO, "syscalls": [first, {"names": ["read"], "action": "X"}]})
-        out = self.run_tool("ask", "--nr=0", "--caps=none", self.file("e.json", engine))[1]
+        given = [entry("bpf", includes={"caps": ["CAP_BPF"]}), entry("read", action="X")]
+        engine = self.file("e.json", {"defaultAction": ERRNO, "syscalls": given})
+        out = self.run_tool("ask", "--nr=0", "--caps=none", engine)[1]
         self.assertNotIn("line 1", out)
         self.assertIn("in the original file that is entry 1 (read)", out)
