@@ -31,9 +31,8 @@ SHIFTS = (operator.lshift, operator.rshift)
 OPERATIONS = {"BitOr": operator.or_, "BitAnd": operator.and_, "LShift": SHIFTS[0], "RShift": SHIFTS[1],
               "Add": operator.add, "Sub": operator.sub, "Invert": operator.invert, "USub": operator.neg}
 X32_BIT = {"__X32_SYSCALL_BIT": 0x40000000, "X32_SYSCALL_BIT": 0x40000000}
-# The most numbers, operators and brackets of an expression; and the most instructions that are read, one more than a
-# filter may have (linux/bpf_common.h: BPF_MAXINSNS).
-LONGEST_EXPRESSION, MOST_ROWS = 99, 4097
+# The most numbers, operators and brackets of an expression; the most instructions that are read: one too many.
+LONGEST_EXPRESSION, MOST_ROWS = 99, bpf.BPF_MAXINSNS + 1
 DEFINITION = r"(?m)^[ \t]*#[ \t]*(define|undef)[ \t]+([A-Za-z_]\w*)(\([^()\n]*\))?[ \t]*([^\n]*)"
 NAME, OPENING = r"\b[A-Za-z_]\w*", r"\s*\("
 # The most characters that macros may stand for, and how deep they may be nested.
@@ -123,8 +122,7 @@ class Macros:
 def _known_number(name: str) -> int | None:
     """A constant of the headers, or the number of a syscall."""
     bare = re.sub("^(?:SYS_|__NR_)", "", name)
-    return X32_BIT.get(name, constants.numbers().get(name)) if bare == name else \
-        tables.read_table(None).number_of(bare)
+    return X32_BIT.get(name, constants.numbers().get(name)) if bare == name else tables.read_table(None).number_of(bare)
 
 
 def _words(text: str) -> Iterator[str]:
@@ -217,8 +215,7 @@ def _elements(text: str) -> list[str]:
 
 
 def _without_comments(text: str) -> str:
-    """A text without its comments, what stands in quotes, and broken lines. A comment that has no end stays, which no
-    array has."""
+    """A text without comments, quotes and broken lines; a comment without an end, which no array has, stays."""
     return re.sub(LINE_MARK, "", re.sub(C_COMMENT, lambda match: match[0] if match[1] == "" else " ",
                                         re.sub(r"\\\r?\n", " ", text))).strip()
 
@@ -236,8 +233,7 @@ def looks_like_array(text: str) -> bool:
 
 
 def bytes_in(text: str) -> bytes:
-    """The bytes of an array of instructions, at most MOST_ROWS, or of one of bytes; raises NotAnArray if a text isn't
-    one, or only a compiler can read it."""
+    """The bytes of an array of instructions, at most MOST_ROWS, or of one of bytes. Raises NotAnArray."""
     elements = _elements(_without_comments(text))
     if elements and all(re.fullmatch("0[xX][0-9a-fA-F]{1,2}|[0-9]{1,3}", element) for element in elements):
         values = [int(element, 0 if element[:2].lower() == "0x" else 10) for element in elements]

@@ -67,8 +67,7 @@ MAX_DIGITS, MAX_TOLD, MAX_LISTED, MAX_NOTES = 20, 64, 3, 1000
 
 @dataclass(frozen=True)
 class Setting:
-    """The container for which entries are chosen: its capabilities, its kernel and its machine; and which architectures
-    are kept."""
+    """The container for which entries are chosen, and which architectures are kept."""
 
     capabilities: Sequence[str]
     kernel: tuple[int, int]
@@ -80,7 +79,7 @@ class Setting:
     ignored: Sequence[str] | None = ()
     # Where the capabilities come from, if no word names them.
     source: str | None = None
-    # One of MACHINES.
+    # One of MACHINE_NAMES.
     machine: str = field(default_factory=machine_here)
     # Whether each entry has a comment that stays: the lines of a sandbox's list.
     keeps_comments: bool = False
@@ -152,7 +151,6 @@ def dumped(value: Any, indent: int | None = None) -> str:
 
 
 def to_bytes(profile: dict[str, Any]) -> bytes:
-    """The bytes of a resolved profile for scf."""
     return dumped(profile).encode()
 
 
@@ -300,8 +298,7 @@ class Resolver:
         return members if names else None
 
     def _tell_unread(self, found: Sequence[Unread]) -> None:
-        """Notes the members that nothing reads, and refuses those that may be conditions; of those that only other
-        engines read each once."""
+        """Notes what nothing reads, and once each what only other engines do; refuses what may be a condition."""
         of_others: dict[str, str] = {}
         for where, name, is_known in found:
             if is_known:
@@ -359,8 +356,7 @@ class Resolver:
 
 
 def capabilities_of(text: str) -> list[str]:
-    """The capabilities of a list of names, with or without CAP_, in which a name of a set stands for it. Raises
-    Refused where there is no such capability."""
+    """The capabilities of a list of names, with or without CAP_, and of names of SETS. Raises Refused."""
     names: list[str] = []
     for word in filter(None, (word.strip() for word in text.split(","))):
         name = word.upper().removeprefix("CAP_")

@@ -171,8 +171,7 @@ def form_of(data: bytes, label: str) -> Filter | None:
 
 
 def read_filter(name: str) -> Filter:
-    """The filter of a file, a pipe or standard input: raw, or a text in one of FORMS, whose name is printed on standard
-    error."""
+    """The filter of a file, a pipe or standard input: raw, or a text in one of FORMS, which standard error names."""
     return filter_in(name, inputs.read_input(name, "filter", most=LONGEST_TEXT))
 
 

@@ -32,8 +32,7 @@ YAML_CONSTANTS = {"true": True, "false": False, "null": None, "~": None, "": Non
 
 
 def printed(profile: dict[str, Any], name: str) -> str:
-    """The text of an object by this name, whose spec is a profile: JSON, which is YAML, too. Raises Refused where an
-    object can't state it."""
+    """The JSON of an object by this name, whose spec is a profile. Raises Refused where an object can't state it."""
     entries = profile.get("syscalls") or []
     answers = [(f"entry {at}", entry["action"], entry.get("errnoRet")) for at, entry in enumerate(entries)]
     for where, action, number in (("the default", profile["defaultAction"], profile.get("defaultErrnoRet")), *answers):

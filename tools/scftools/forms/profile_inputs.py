@@ -198,8 +198,7 @@ def profile_in(data: bytes, name: str, is_runtimes: bool = False, is_strict: boo
 
 
 def resolved(value: Any, setting: engines.Setting, keeps_first: bool = False) -> ProfileInput:
-    """The profile that an engine makes of a profile's value; on request without later answers to a syscall. Raises
-    Refused."""
+    """The profile that an engine makes of a value; on request without later answers to a syscall. Raises Refused."""
     resolver = engines.Resolver(setting)
     profile = resolver.resolved(value, keeps_first)
     return ProfileInput(DerivedProfile(engines.to_bytes(profile)), resolver.origins, profile=profile,

@@ -37,8 +37,7 @@ def _shown(value: object) -> str:
 
 
 class MemberFault(Exception):
-    """The kind of a profile's first fault, the path of the value that is wrong or lacks a member, and what is to be
-    said."""
+    """A profile's first fault: its kind, the path of the value that is wrong or lacks a member, and what is said."""
 
 
 class Value:

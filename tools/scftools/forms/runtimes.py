@@ -156,8 +156,7 @@ def _short_errno(holder: dict[str, Any], name: str) -> dict[str, int]:
 
 
 class _Application:
-    """The making of what a runtime is given out of a resolved profile, on a machine with this OCI name of its own
-    architecture."""
+    """Makes what a runtime is given of a resolved profile, on a machine whose own architecture has this OCI name."""
 
     def __init__(self, runtime: Runtime, native: str):
         self.runtime, self.native = runtime, native
@@ -268,8 +267,7 @@ class _Application:
             absent = frozenset(name for name in names.intersection(table.names())
                                if (self.number_of(name, architecture) or 0) < 0
                                and not libseccomp.is_multiplexed(name, architecture))
-            if absent:
-                data.absent = {**data.absent, architecture: absent}
+            data.absent = {**data.absent, **({architecture: absent} if absent else {})}
         return data
 
     def run(self, resolved: ProfileInput) -> ProfileInput:
@@ -332,8 +330,7 @@ def _refuse_engines(seccomp: Any, program_name: str) -> None:
 
 
 def setting_of(runtime: Runtime | None, caps: str | None = None, machine: str | None = None) -> Setting:
-    """The container that a runtime's engine resolves a profile for: by default with the engine's capabilities, on this
-    machine, and on this kernel."""
+    """The container that a runtime's engine resolves a profile for, by default with its capabilities, and here."""
     engine = None if runtime is None else runtime.engine
     return engines.setting_of(engine or "none" if caps is None else caps, engine, machine)
 
@@ -385,8 +382,7 @@ def applied_in(data: bytes, path: str, name: str | None, setting: Setting,
 
 
 def words_of(options: Any) -> tuple[Runtime | None, str | None, str | None]:
-    """The runtime, the capabilities and the machine by which a command line has profiles read. Refuses words about a
-    profile that don't go together."""
+    """The runtime, capabilities and machine by which a command line has profiles read, if they go together."""
     name, caps, machine = (getattr(options, word, None) for word in ("runtime", "caps", "machine"))
     runtime = RUNTIMES.get(name)
     has_engine = runtime is not None and runtime.engine is not None
@@ -405,9 +401,8 @@ def text_of(name: str, options: Any) -> bytes:
 
 
 def input_in(data: bytes, name: str, options: Any, is_strict: bool | None = False) -> ProfileInput:
-    """The profile in what was read of an input, as a command line says that it is read; what is to be known of that is
-    printed. If `is_strict` is None, nothing is said of members that nothing reads, nor of those that only engines do.
-    """
+    """The profile in what was read of an input, as a command line says that it is read, which is said. If `is_strict`
+    is None, nothing is said of members that nothing reads, nor of those that only engines do."""
     runtime, caps, machine = words_of(options)
     if runtime is None and caps is None:
         given = ProfileInput(data) if is_strict is None else profile_inputs.profile_in(data, name, False, is_strict)

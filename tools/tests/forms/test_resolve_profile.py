@@ -277,11 +277,8 @@ class ResolveProfile(Case):
                      "--runtime", "crun")
         self.assertEqual(self.run_tool("resolve-profile", "--runtime", "lxc", "-")[0], 2)
 
-
-class ErrnoByName(Case):
-    """What only podman reads is refused, as `includes` is, by every tool but lint, which reports it."""
-
-    def test_every_tool_refuses_it(self):
+    def test_every_tool_refuses_errnos_by_name(self):
+        """What only podman reads is refused, as `includes` is, by every tool but lint, which reports it."""
         self.file("f.bpf", b"\x06\0\0\0\0\0\xff\x7f")
         self.file("log", b"")
         for given, says in ((engine(entry("read"), entry("mkdir", action=ERRNO, errno="EACCES")),
@@ -289,29 +286,20 @@ class ErrnoByName(Case):
                             ({"linux": {"seccomp": engine(defaultErrno="ENOSYS", defaultErrnoRet=38)}},
                              'the profile has defaultErrno "ENOSYS"')):
             text = json.dumps(given)
-            escaped = text.replace('"errno"', '"\\u0065rrno"').replace('"defaultErrno"', '"default\\u0045rrno"')
-            for data in (text, escaped):
+            for data in (text, text.replace('"errno"', '"\\u0065rrno"').replace('"defaultErrno"', '"default\\u0045rrno"')):
                 self.file("p.json", data)
                 for name, words in (("ask", ("--nr=mkdir", "p.json")), ("compare", ("f.bpf", "p.json")),
                                     ("compare-profiles", ("p.json", "p.json")), ("compile", ("p.json",)),
-                                    ("needs", ("log", "p.json")),
-                                    ("verify-process", (str(os.getpid()), "p.json"))):
-                    status, out, err = self.run_tool(name, *words)
+                                    ("needs", ("log", "p.json")), ("verify-process", (str(os.getpid()), "p.json"))):
                     is_runtimes = name in ("compare-profiles", "verify-process")
                     hint = "--runtime podman takes it" if is_runtimes else "scf resolve-profile resolves it"
-                    self.assertEqual((status, out, err), (2, "", f"{name}: {says}, which only podman reads: {hint}\n"))
-                found, _ = self.resolved("p.json")
-                self.assertEqual(self.run_tool("ask", "--nr=mkdir", self.file("r.json", found))[0], 0)
-
-    def resolved(self, path):
-        status, out, err = self.run_tool("resolve-profile", path)
-        self.assertEqual(status, 0, err)
-        return out, err
-
-    def test_where_no_errno_is_named(self):
+                    self.assertEqual(self.run_tool(name, *words),
+                                     (2, "", f"{name}: {says}, which only podman reads: {hint}\n"))
+            found = self.file("r.json", self.resolved(given)[0])
+            self.assertEqual(self.run_tool("ask", "--nr=mkdir", found)[0], 0)
         for members in ({"errno": ""}, {"errno": None}, {"comment": "errno"}):
-            given = json.dumps(engine(entry("mkdir", action=ERRNO, **members), defaultErrno=None))
-            self.assertEqual(self.run_tool("ask", "--nr=mkdir", self.file("p.json", given))[0], 0)
+            given = self.file("p.json", engine(entry("mkdir", action=ERRNO, **members), defaultErrno=None))
+            self.assertEqual(self.run_tool("ask", "--nr=mkdir", given)[0], 0)
 
 
 class Hostile(MeasuredCase):
