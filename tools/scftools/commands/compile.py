@@ -57,7 +57,7 @@ from ..model import bundles, tables
 from ..ask import client, explanation, verdicts
 from ..ask.client import Fault
 from ..cli import words
-from ..forms import assembler, counts, refusals, runtimes
+from ..forms import counts, filters, refusals, runtimes
 
 OF_PROFILES = ("native", "strict", "runtime", "caps", "machine", "hot")
 
@@ -91,11 +91,11 @@ def main():
     if not options.json:
         parser.keep_off_terminal()
     data = inputs.read_input(options.profile, "text") if options.kind else runtimes.text_of(options.profile, options)
-    if options.kind or assembler.is_text(data):
+    if options.kind or filters.is_assembler(data):
         words.refuse(options, OF_PROFILES, f"speaks of a profile, and '{options.profile}' is an assembler's text")
         done = client.run_scf(["asm"], data)
         sentences = () if done.status == program.SUCCESS else [
-            *assembler.wrong_word(data.decode("latin-1"), Fault.read(done.line)), *explanation.explain_line(done.line)]
+            *filters.wrong_word(data.decode("latin-1"), Fault.read(done.line)), *explanation.explain_line(done.line)]
         return put(done, options, done.out, sentences)
     profile = runtimes.input_in(data, options.profile, options, options.strict)
     judged = profile.judged(tables.read_table(options.table), options.native)

@@ -9,22 +9,28 @@ it is.
 """
 from __future__ import annotations
 
+import itertools
 import os
 import re
-from collections.abc import Callable, Sequence
+from collections import Counter
+from collections.abc import Callable, Iterator, Sequence
 
-from ..base import inputs, program
+from ..base import inputs, output, program
 from ..base.values import Pattern, dataclass, unless_refused
-from ..model import bundles
+from ..model import bundles, tables
 from ..model.bpf import BPF_MAXINSNS, INSTRUCTION
 from ..ask import client
-from . import assembler, c_arrays
+from ..ask.client import Fault
+from . import c_arrays
 
-# The most bytes of a filter as text.
+# The most bytes of a filter as text, and of one in which a wrong word is looked for.
 LONGEST_TEXT = 1 << 20
 HEXADECIMAL_TEXT, ARRAY, DECIMALS, ASSEMBLER = (
     "hexadecimal text", "a C array", "decimals of tcpdump -ddd", "scf's assembler text")
 LOADING = Pattern(r"(?m)^[\[\]pid 0-9]{0,30}(?:seccomp\(SECCOMP_SET_MODE_FILTER|prctl\(PR_SET_SECCOMP), ")
+# The assembler's mnemonics, and its statement: a label, a mnemonic, operands.
+MNEMONICS = "ld ldx st stx add sub mul div or and lsh rsh xor neg ja jeq jgt jge jset ret tax txa raw".split()
+STATEMENT = Pattern(r"\s*(?:([A-Za-z_]\w*)\s*:)?\s*(\w+|\S?)\s*(.*)")
 # What isn't a filter: how it begins, what it is, and what to do.
 OF_PROFILE = ": `scf surface` and `scf decide` take profiles, too, and `scf compile` makes the filter of one"
 NOT_FILTERS = (
@@ -108,12 +114,59 @@ def _of_decimals(text: str) -> bytes | None:
     return c_arrays.packed(values) or None
 
 
+def _statements(line: str) -> Iterator[Sequence[str]]:
+    """The label, the mnemonic and the operands of each statement of a line."""
+    for text in line.partition("//")[0].split(";"):
+        statement = STATEMENT.match(text)
+        if statement and text.strip():
+            yield statement.groups("")
+
+
+def first_word(text: str) -> str:
+    """The first word of a text in the assembler that isn't a label."""
+    return next((word for line in text.split("\n") for _, word, _ in _statements(line) if word), "")
+
+
+def is_assembler(data: bytes) -> bool:
+    """Whether bytes begin as a text in scf's assembler does."""
+    return data.isascii() and first_word(data[:LONGEST_TEXT].decode("ascii")) in MNEMONICS
+
+
+def _unknown(word: str, kind: str, known: Sequence[str]) -> str:
+    near = tables.most_like(word.lower(), known)
+    return f"'{output.cut(word)}' is no {kind}" + (f"; the nearest is '{near}'" if near else "")
+
+
+def wrong_word(text: str, fault: Fault | None) -> list[str]:
+    """Which word of a text in the assembler a fault is about, and the nearest one; nothing if it can't be said."""
+    lines, number = text.split("\n"), fault.numbers.get("line", 0) if fault is not None else 0
+    if fault is None or not 0 < number <= len(lines) or len(text) > LONGEST_TEXT:
+        return []
+    here = lines[number - 1]
+    if fault.kind == "Mnemonic":
+        words = (word for _, word, _ in _statements(here) if word and word not in MNEMONICS)
+        return [_unknown(word, "mnemonic", MNEMONICS) for word in itertools.islice(words, 1)]
+    if fault.kind == "Label":
+        labels = Counter(label for line in lines for label, _, _ in _statements(line) if label)
+        for label, word, operands in _statements(here):
+            targets = re.findall(r"[A-Za-z_]\w*", operands) if word in ("ja", "jeq", "jgt", "jge", "jset") else []
+            unknown = next((target for target in targets if target != "x" and target not in labels), None)
+            if unknown is not None:
+                return [_unknown(unknown, "label", [*itertools.islice(labels, BPF_MAXINSNS)])]
+            if labels[label] > 1:
+                return [f"'{output.cut(label)}' is a label twice"]
+        return []
+    statements = [f"the statement is '{output.cut(' '.join(parts[1:]))}'"
+                  for parts in itertools.islice(_statements(here), 2)]
+    return statements if len(statements) == 1 and fault.kind != "TooLong" else []
+
+
 def _of_assembler(text: str) -> bytes | None:
-    if assembler.first_word(text) not in assembler.MNEMONICS:
+    if first_word(text) not in MNEMONICS:
         return None
     done = client.run_scf(["asm"], text.encode())
     if done.status != program.SUCCESS:
-        raise c_arrays.NotAnArray(": ".join([done.line, *assembler.wrong_word(text, client.Fault.read(done.line))]))
+        raise c_arrays.NotAnArray(": ".join([done.line, *wrong_word(text, Fault.read(done.line))]))
     return done.out
 
 
