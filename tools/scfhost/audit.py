@@ -104,7 +104,7 @@ class Assessor:
         """The parts of a row's stacks, with their indexes and threads; `judging` says why some aren't judged."""
         plain = {process.number: list(process.threads) for process in row.processes if not process.is_confined}
         for stack, index, threads in stacks:
-            if stack.is_unconfined:
+            if not stack.filters and not stack.is_strict:
                 plain.update(threads)
                 continue
             why = judging if stack.filters else "it is in seccomp's strict mode, which no profile expresses"

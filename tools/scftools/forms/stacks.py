@@ -44,11 +44,6 @@ class Stack:
                               for process, threads in self.threads.items()]}
 
     @property
-    def is_unconfined(self) -> bool:
-        """Whether the threads have neither a filter nor the strict mode."""
-        return not self.filters and not self.is_strict
-
-    @property
     def confined(self) -> str:
         """What confines its threads, as objects say it."""
         return "by filters" if self.filters else "strict" if self.is_strict else "not"
