@@ -150,8 +150,7 @@ def _conflicting(fault: Fault, profile: bytes, judged: Tables) -> Call:
     """A record of the syscall on which two entries conflict: of the first architecture on which both name it."""
     number = fault.numbers["number"]
     entries = [profiles.entry_at(profile, fault.numbers[field]) for field in ("first", "second")]
-    listed = [{name for name in entry["names"] if isinstance(name, str)} for entry in entries
-              if isinstance(entry, dict) and isinstance(entry.get("names"), list)]
+    listed = [set(entry["names"]) for entry in entries if isinstance(entry, dict)]
     for name, table in judged.of.items():
         architecture = architectures.JUDGED[name]
         is_its = architecture.first <= number <= architecture.last
@@ -164,26 +163,24 @@ def _conflicting(fault: Fault, profile: bytes, judged: Tables) -> Call:
 def sentences(fault: Fault, profile: bytes, judged: Tables, origins: Sequence[Origin] | None = None) -> Iterator[str]:
     """The explanation of a fault, and what to do; of a profile, where it stands, and of one that was resolved, in which
     entries of the user's file."""
-    if (fault.source, fault.kind) == ("profile", "Json") and len(profile) <= inputs.LIMITS["profile"]:
-        meaning, *_ = explanation.explain_fault(fault)
-        yield profiles.where_json_ends(profile)
-        yield meaning
-        return
+    kind, is_too_long = fault.kind if fault.source == "profile" else None, len(profile) > inputs.LIMITS["profile"]
     sentences, reading = list(explanation.explain_fault(fault)), profiles.reading_of(profile)
-    if (fault.source, fault.kind) == ("profile", "Conflict") and reading not in profiles.BY_WORDS:
+    if kind == "Json" and not is_too_long:
+        sentences = [profiles.where_json_ends(profile), sentences[0]]
+    if kind == "Conflict" and reading not in profiles.BY_WORDS:
         sentences[1:] = [CONFLICT_FOR_RUNTIME.format(reading)]
     yield from sentences
-    if fault.source == "profile" and len(profile) > inputs.LIMITS["profile"]:
+    if kind is not None and is_too_long:
         yield f"the profile has more than {inputs.LIMITS['profile']} bytes"
         return
-    if (fault.source, fault.kind) == ("profile", "Conflict"):
+    if kind == "Conflict":
         yield f"the syscall is {_conflicting(fault, profile, judged).describe(judged.native)}"
-    if fault.source == "profile" and origins is not None:
+    if kind is not None and origins is not None:
         named = [fault.numbers[name] for name in ("entry", "first", "second") if name in fault.numbers]
         places = [origins[index].describe() for index in named if index < len(origins)]
         if places:
             yield f"in the original file that is {' and '.join(dict.fromkeys(places))}"
-    elif fault.source == "profile":
+    elif kind is not None:
         yield from _of_member(fault, profile)
 
 

@@ -267,7 +267,8 @@ class _Application:
             absent = frozenset(name for name in names.intersection(table.names())
                                if (self.number_of(name, architecture) or 0) < 0
                                and not libseccomp.is_multiplexed(name, architecture))
-            data.absent = {**data.absent, **({architecture: absent} if absent else {})}
+            if absent:
+                data.absent = {**data.absent, architecture: absent}
         return data
 
     def run(self, resolved: ProfileInput) -> ProfileInput:
