@@ -10,7 +10,7 @@ from collections.abc import Iterable
 
 from ..base.values import Pattern
 from . import c_arrays, strace
-from .strace_reader import Confinement
+from .strace_reader import Confinement, Line
 
 # The most filters that are loaded in a log, and the most bytes of a line, which holds a filter of 4096 instructions.
 MOST_LOADS, LONGEST_LOAD = 4096, 1 << 20
@@ -31,8 +31,8 @@ class FilterLoads(Confinement):
         # calls that aren't finished yet
         self._unfinished: dict[str | None, str] = {}
 
-    def filter_in(self, text: str, name: re.Match[str]) -> bytes:
-        arguments = strace.arguments_in(text, name.end())[0]
+    def filter_in(self, line: Line) -> bytes:
+        arguments = strace.arguments_in(line.text, line.name.end())[0]
         printed = PROGRAM.fullmatch(arguments[2].strip()) if len(arguments) > 2 else None
         if not printed or printed[2] is None:
             raise c_arrays.NotAnArray("it doesn't show the filters whole: strace does with -v")
@@ -44,26 +44,24 @@ class FilterLoads(Confinement):
         self._loads_left -= 1
         return data
 
-    def add(self, line: str) -> None:
+    def add(self, text: str) -> None:
         """Adds a line. Raises c_arrays.NotAnArray if a filter can't be read."""
-        leader = strace.LEADER.match(line)
-        assert leader
-        who, text = leader[1] or leader[2], line[leader.end():]
-        resumed = strace.RESUMED.match(text)
-        if resumed and who in self._unfinished:
-            text = self._unfinished.pop(who) + text[resumed.end():]
-        call, is_end = strace.CALL_NAME.match(text), text.startswith("+++ ")
-        if not is_end and not (call and call[1] in TRACED_CALLS.split(",")):
+        read = Line.read(0, text)
+        who, resumed, is_end = read.who, strace.RESUMED.match(read.text), read.text.startswith("+++ ")
+        begun = self._unfinished.pop(who) if resumed and who in self._unfinished else None
+        # (a load whose end the log lacks counts for nothing here)
+        line = Line(who, 0, None, read.text if begun is None else begun + read.text[resumed.end():])
+        if not is_end and not (line.name and line.name[1] in TRACED_CALLS.split(",")):
             return
         if self.process.keys() - {None} if who is None else None in self.process:
             raise c_arrays.NotAnArray("it doesn't number each process: strace -f -o LOG does")
         self.begins(who, (maker for maker, begun in self._unfinished.items() if begun.startswith(strace.FORKS)))
         if is_end:
-            self.ends(who, text)
-        elif text.endswith(strace.UNFINISHED_MARK):
-            self._unfinished[who] = text.removesuffix(strace.UNFINISHED_MARK)
+            self.ends(line)
+        elif line.text.endswith(strace.UNFINISHED_MARK):
+            self._unfinished[who] = line.text.removesuffix(strace.UNFINISHED_MARK)
         else:
-            self.takes(who, text, call, False)
+            self.takes(line)
 
     def end(self, who: str | None) -> None:
         """A process or thread has ended, or the log has."""

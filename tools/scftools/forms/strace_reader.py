@@ -40,6 +40,28 @@ def modes_of(architecture: str) -> dict[str, str]:
     return {OWN_MODE: machine, **dict(JUDGED[machine].modes)}
 
 
+class Line:
+    """A line of a log: its process, its number, from 1 on, that of its syscall where strace prints it, the text behind
+    these, the match of the syscall's name, and whether the text may lack its end."""
+
+    def __init__(self, who: str | None, number: int, nr: int | None, text: str, is_cut: bool = False):
+        self.who, self.number, self.nr, self.text, self.is_cut = who, number, nr, text, is_cut
+        self.name = CALL_NAME.match(text)
+
+    @classmethod
+    def read(cls, number: int, text: str) -> Line:
+        leader = LEADER.match(text)
+        assert leader
+        return cls(leader[1] or leader[2], number, int(leader[3]) if leader[3] else None,
+                   text[leader.end():].rstrip("\r"), len(text) >= LONGEST_LINE)
+
+    @property
+    def child(self) -> str | None:
+        """The process or thread that a syscall has made, as its result says."""
+        result = RESULT.match(self.text, self.text.rfind(")") + 1) if self.text.startswith(FORKS) else None
+        return result[1] if result and result[1].isdigit() and result[1] != "0" else None
+
+
 @dataclass
 class Confinement:
     """The filters of processes and threads. A child has its maker's, a load with TSYNC is for all threads of the
@@ -84,40 +106,38 @@ class Confinement:
         """A thread is of a process, and has another one's filters."""
         self.process[who], self.filters[who] = process, self.filters.get(model, ())
 
-    def takes(self, who: str | None, text: str, name: re.Match[str], is_cut: bool) -> None:
-        if text.startswith(FORKS):
-            result = RESULT.match(text, text.rfind(")") + 1)
-            if result and result[1].isdigit() and result[1] != "0":
-                child = result[1]
-                early = self._early.pop(who, child)
-                if child == early and child not in self.process:
-                    self._expected[child] = None
-                for number in (child, early):
-                    process = self.process_of(who) if "CLONE_THREAD" in text else number
-                    if number in self.process:
-                        # (it may have loaded filters since its first line)
-                        self.process[number] = process
-                    else:
-                        self._is_as(number, who, process)
-        elif text.startswith(("seccomp(", "prctl(")):
-            flags = _flags_of_load(text, name, is_cut)
-            if flags is not None:
-                filters = (*self.filters.get(who, ())[:MOST_FILTERS], self.filter_in(text, name))
-                self.is_shown, process = True, self.process_of(who)
-                for thread in self.process if flags & FLAG_TSYNC else [who]:
-                    if thread == who or self.process[thread] == process:
-                        self.filters[thread] = filters
+    def takes(self, line: Line) -> None:
+        """A thread has made a syscall."""
+        who, child = line.who, line.child
+        if child is not None:
+            early = self._early.pop(who, child)
+            if child == early and child not in self.process:
+                self._expected[child] = None
+            for number in (child, early):
+                process = self.process_of(who) if "CLONE_THREAD" in line.text else number
+                if number in self.process:
+                    # (it may have loaded filters since its first line)
+                    self.process[number] = process
+                else:
+                    self._is_as(number, who, process)
+        flags = _flags_of_load(line) if line.text.startswith(("seccomp(", "prctl(")) else None
+        if flags is not None:
+            filters = (*self.filters.get(who, ())[:MOST_FILTERS], self.filter_in(line))
+            self.is_shown, process = True, self.process_of(who)
+            for thread in self.process if flags & FLAG_TSYNC else [who]:
+                if thread == who or self.process[thread] == process:
+                    self.filters[thread] = filters
 
-    def filter_in(self, _: str, name: re.Match[str]) -> bytes:
+    def filter_in(self, line: Line) -> bytes:
         """The filter that a call loads; here only that there is one."""
-        return name[1].encode()
+        return line.name[1].encode()
 
-    def ends(self, who: str | None, text: str) -> None:
+    def ends(self, line: Line) -> None:
         """A line says that a process or thread has ended, or that a thread goes on as its process."""
-        superseded = SUPERSEDED.match(text)
+        superseded = SUPERSEDED.match(line.text)
         if superseded and superseded[1] in self.process:
-            self.filters[who] = self.filters.pop(superseded[1])
-        self.end(superseded[1] if superseded else who)
+            self.filters[line.who] = self.filters.pop(superseded[1])
+        self.end(superseded[1] if superseded else line.who)
 
     def end(self, who: str | None) -> None:
         """A process or thread isn't there any more."""
@@ -126,60 +146,47 @@ class Confinement:
         self._expected.pop(who or "", None)
 
 
-def _flags_of_load(text: str, name: re.Match[str], is_cut: bool) -> int | None:
+def _flags_of_load(line: Line) -> int | None:
     """The flags with which a whole call loaded a filter; None if it loaded none. One whose end the log lacks, as a
     filter that is printed whole may be too long, is taken as a load that succeeded."""
-    values = {index: values[0] for index, values in registers_in(text, name).items() if values}
-    is_prctl = name[1] == "prctl"
+    values = {index: values[0] for index, values in registers_in(line.text, line.name).items() if values}
+    is_prctl = line.name[1] == "prctl"
     wanted = [PR_SET_SECCOMP, SECCOMP_MODE_FILTER] if is_prctl else [SECCOMP_SET_MODE_FILTER]
     if [values.get(index) for index in range(len(wanted))] != wanted:
         return None
-    flags, end = 0 if is_prctl else values.get(1, 0), arguments_in(text, name.end())[1]
-    result = None if end is None else RESULT.match(text, end)
+    flags, end = 0 if is_prctl else values.get(1, 0), arguments_in(line.text, line.name.end())[1]
+    result = None if end is None else RESULT.match(line.text, end)
     if result is None:
-        return flags if is_cut else None
+        return flags if line.is_cut else None
     return flags if result[1] == "0" or result[1].isdigit() and flags & FLAG_NEW_LISTENER else None
 
 
-class Line:
-    """A line of a log: its number, from 1 on, that of its syscall where strace prints it, and the text behind both."""
-
-    def __init__(self, number: int, nr: int | None, text: str):
-        self.number, self.nr, self.text = number, nr, text
-
-
-class Sink:
-    """Who takes what a reader finds in a log; by default all is passed over."""
-
-    def end_line(self, who: str | None, line: Line) -> None:
-        """The line is read."""
-
-    def take_call(self, who: str | None, line: Line, name: re.Match[str], architecture: str, is_cut: bool,
-                  is_judged: bool) -> None:
-        """A syscall of a process, whole unless `is_cut`; its architecture is empty if none has the printed number. It
-        isn't to be judged if the log shows a filter being loaded, and not that the process is under one."""
-
-    def show_load(self) -> None:
-        """The log shows the first filter being loaded: what stands before isn't made under one."""
-
-    def count_unread(self, line: Line, is_call: bool) -> None:
-        """A line isn't strace's, or, if `is_call`, the end of a known syscall whose beginning the log lacks."""
-
-
 class Reader:
-    """Tells a sink of a log's lines and syscalls."""
+    """Reads a log, and hands its lines and syscalls to what a subclass does with them."""
 
-    def __init__(self, sink: Sink, tables: dict[str, Table], own_architecture: str = NATIVE):
+    def __init__(self, tables: dict[str, Table], own_architecture: str = NATIVE):
         # the tables of architectures, and the architecture of what doesn't say it
         self.tables, self.own_architecture = tables, own_architecture
-        self._sink = sink
         # (what strace prints by a name it prints again and again)
         self.numbered = functools.lru_cache(MOST_NAMES)(self._numbered)
         self._pending: dict[str | None, Line] = {}
         # the pieces of a line that is broken by messages of strace, and how many more characters are kept
         self._broken: list[str] = []
-        self._room, self._line, self._is_long = LONGEST_LINE, 0, False
+        self._room, self._line = LONGEST_LINE, 0
         self.begin()
+
+    def end_line(self, line: Line) -> None:
+        """The line is read."""
+
+    def take_call(self, line: Line, architecture: str, is_judged: bool) -> None:
+        """A syscall; its architecture is empty if none has the printed number. It isn't to be judged if the log shows a
+        filter being loaded, and not that the process is under one."""
+
+    def show_load(self) -> None:
+        """The log shows the first filter being loaded: what stands before isn't made under one."""
+
+    def count_unread(self, is_call: bool) -> None:
+        """A line isn't strace's, or, if `is_call`, the end of a known syscall whose beginning the log lacks."""
 
     def begin(self) -> None:
         """Begins a log, with processes of its own."""
@@ -204,16 +211,13 @@ class Reader:
         if self._broken:
             line = "".join([*self._broken, line])
             self._broken, self._room = [], LONGEST_LINE
-        self._is_long = len(line) >= LONGEST_LINE
-        leader = LEADER.match(line)
-        assert leader
-        who = self._who(leader[1] or leader[2])
-        read = Line(number, int(leader[3]) if leader[3] else None, line[leader.end():].rstrip("\r"))
-        self.confinement.begins(who, itertools.islice(self._makers, MAKERS))
-        self._add(who, read)
-        self._sink.end_line(who, read)
+        read = Line.read(number, line)
+        read.who = self._who(read.who)
+        self.confinement.begins(read.who, itertools.islice(self._makers, MAKERS))
+        self._add(read)
+        self.end_line(read)
         if read.text.startswith("+++ "):
-            self.confinement.ends(who, read.text)
+            self.confinement.ends(read)
 
     def number_of(self, architecture: str, name: str) -> int | None:
         """The number of a syscall in the table of an architecture; strace prints one without a name as
@@ -263,31 +267,31 @@ class Reader:
     def _architecture_of(self, who: str | None) -> str:
         return self._architectures.get(who, self.own_architecture)
 
-    def _add(self, who: str | None, line: Line) -> None:
-        name = CALL_NAME.match(line.text)
-        mode = None if name else MODE.match(line.text)
-        if name and line.text.endswith(UNFINISHED_MARK):
+    def _add(self, line: Line) -> None:
+        who, text = line.who, line.text
+        mode = None if line.name else MODE.match(text)
+        if line.name and text.endswith(UNFINISHED_MARK):
             self._pending_ends(who)
-            text = line.text.removesuffix(UNFINISHED_MARK)[:LONGEST_BEGINNING]
-            self._pending[who] = Line(line.number, line.nr, text)
+            line.text = text.removesuffix(UNFINISHED_MARK)[:LONGEST_BEGINNING]
+            self._pending[who] = line
             if text.startswith(FORKS):
                 self._makers[who] = None
             if len(self._pending) > PENDING:
                 self._pending_ends(next(iter(self._pending)))
-        elif name:
-            self._call(who, line, name)
+        elif line.name:
+            self._call(line)
         elif mode:
             for key in (mode[1], who):
                 self._enter(key, modes_of(self.own_architecture).get(mode[2], ""))
-        elif line.text.startswith("+++ "):
+        elif text.startswith("+++ "):
             self._pending_ends(who)
             if who is not None:
                 self._alive.discard(who)
                 self._architectures.pop(who, None)
-        elif line.text.startswith("<... "):
-            self._resume(who, line)
-        elif line.text.strip() and not line.text.startswith(("--- ", "> ", "strace: ")):
-            self._sink.count_unread(line, False)
+        elif text.startswith("<... "):
+            self._resume(line)
+        elif text.strip() and not text.startswith(("--- ", "> ", "strace: ")):
+            self.count_unread(False)
 
     def _enter(self, who: str | None, architecture: str) -> None:
         self._architectures[who] = architecture
@@ -298,40 +302,38 @@ class Reader:
         if who in self._pending:
             begun = self._pending.pop(who)
             self._makers.pop(who, None)
-            self._call(who, begun, CALL_NAME.match(begun.text), is_cut=True)
+            begun.is_cut = True
+            self._call(begun)
 
-    def _resume(self, who: str | None, line: Line) -> None:
+    def _resume(self, line: Line) -> None:
         match = RESUMED.match(line.text)
         # the first process has no number as long as it is alone
-        key = who if who in self._pending else None
+        key = line.who if line.who in self._pending else None
         begun = self._pending.get(key)
-        name = CALL_NAME.match(begun.text) if begun else None
-        if match and name and name[1] == match[1]:
+        if match and begun and begun.name[1] == match[1]:
             self._makers.pop(key, None)
             del self._pending[key]
             is_cut = len(begun.text) >= LONGEST_BEGINNING
             begun.text += "" if is_cut else line.text[match.end():]
-            self._call(who, begun, name, is_cut)
+            begun.who, begun.is_cut = line.who, is_cut or line.is_cut
+            self._call(begun)
         else:
-            is_known = match and self.numbered(self.architecture_of(who, match[1], line.nr), match[1])
-            self._sink.count_unread(line, bool(is_known))
+            is_known = match and self.numbered(self.architecture_of(line.who, match[1], line.nr), match[1])
+            self.count_unread(bool(is_known))
 
-    def _call(self, who: str | None, line: Line, name: re.Match[str], is_cut: bool = False) -> None:
-        architecture = self.architecture_of(who, name[1], line.nr)
-        if line.text.startswith(FORKS):
+    def _call(self, line: Line) -> None:
+        architecture = self.architecture_of(line.who, line.name[1], line.nr)
+        if line.child is not None:
             # a new process begins in the architecture of the one that makes it
-            result = RESULT.match(line.text, line.text.rfind(")") + 1)
-            if result and result[1].isdigit():
-                self._architectures.setdefault(result[1], self._architecture_of(who))
-        was_shown, is_under = self.confinement.is_shown, self.confinement.has(who)
-        self.confinement.takes(who, line.text, name, is_cut or self._is_long)
+            self._architectures.setdefault(line.child, self._architecture_of(line.who))
+        was_shown, is_under = self.confinement.is_shown, self.confinement.has(line.who)
+        self.confinement.takes(line)
         if self.confinement.is_shown and not was_shown:
-            self._sink.show_load()
-        self._sink.take_call(who, line, name, architecture, is_cut or self._is_long,
-                             is_under or not self.confinement.is_shown)
+            self.show_load()
+        self.take_call(line, architecture, is_under or not self.confinement.is_shown)
 
     def end(self) -> None:
         if self._broken:
-            self.add(self._line, "")
+            Reader.add(self, self._line, "")
         for who in list(self._pending):
             self._pending_ends(who)

@@ -14,7 +14,7 @@ from ..model.architectures import JUDGED, Architecture
 from ..model.calls import Call
 from ..model.tables import Table
 from ..forms import strace
-from ..forms.strace_reader import LONGEST_BEGINNING, PENDING, SUPERSEDED, Line, Reader, Sink
+from ..forms.strace_reader import LONGEST_BEGINNING, PENDING, SUPERSEDED, Line, Reader
 from . import audit_records, journals
 from .audit_records import Malformed
 
@@ -239,13 +239,13 @@ def _of_signal(who: str | None, members: str, call: _Printed | None, tables_of: 
     return Event(STRACE, Call(number, architecture, pointer), outcome, process=int(who) if who else None)
 
 
-class _LogReader(Sink):
+class _LogReader(Reader):
     """What the lines of a log of any kind have. Of a strace log the last syscall of each process is kept, those that
     SIGSYS ended, and those that failed."""
 
     def __init__(self, lines: Iterable[str], table: Table):
+        super().__init__(tables.architecture_tables(JUDGED, table).of)
         self.log, self._lines = EventLog(), iter(lines)
-        self.reader = Reader(self, tables.architecture_tables(JUDGED, table).of)
         # the stamps of records, and how many without and with one have everything else in common
         self._stamps: dict[str, None] = {}
         self._counts: dict[audit_records.SeccompRecord, list[int]] = {}
@@ -257,10 +257,9 @@ class _LogReader(Sink):
         # of each process what failed, the last at the end
         self._failed: dict[str | None, dict[tuple[object, ...], None]] = {}
 
-    def take_call(self, who: str | None, line: Line, name: re.Match[str], architecture: str, is_cut: bool,
-                  is_judged: bool) -> None:
+    def take_call(self, line: Line, architecture: str, is_judged: bool) -> None:
+        who, nr = line.who, self.number_of(architecture, line.name[1])
         self._last.pop(who, None)
-        nr = self.reader.number_of(architecture, name[1])
         # (what socketcall and ipc do strace prints by its own name)
         if nr is None or line.nr not in (None, nr):
             return
@@ -269,7 +268,7 @@ class _LogReader(Sink):
         event = self.log.last_failure = self._last[who].failure if is_judged else None
         if event is not None:
             self.log.failures.add(event)
-            failed = self._failed.setdefault(self.reader.confinement.process_of(who), {})
+            failed = self._failed.setdefault(self.confinement.process_of(who), {})
             failed.pop(event.key, None)
             failed[event.key] = None
             forget_beyond(failed, OF_PROCESS)
@@ -282,13 +281,13 @@ class _LogReader(Sink):
         failures, self._failed = self.log.failures, {}
         self.log.failures = Failures(before_load=failures.before_load + failures.count)
 
-    def end_line(self, who: str | None, line: Line) -> None:
-        signal = SIGSYS_LINE.match(line.text)
+    def end_line(self, line: Line) -> None:
+        who, signal = line.who, SIGSYS_LINE.match(line.text)
         if signal and len(self._signals) < EVENTS:
             self._signals.append((who, signal[1], self._last.pop(who, None)))
         elif line.text.startswith("+++ "):
             if SUPERSEDED.match(line.text) is None:
-                process, is_bad = self.reader.confinement.process_of(who), ENDED_BADLY.match(line.text) is not None
+                process, is_bad = self.confinement.process_of(who), ENDED_BADLY.match(line.text) is not None
                 failed = self._failed.pop(process, None) if is_bad or process == who else None
                 if failed and is_bad and len(self.log.failures.of_ended) < EVENTS:
                     self.log.failures.of_ended.append([*reversed(failed)])
@@ -302,7 +301,7 @@ class _LogReader(Sink):
             self.log.cores.take_list(line, self._lines)
         elif not self._is_record(journals.message_in(line) if is_entry else line) and not is_entry and \
                 not self.log.cores.take(line):
-            self.reader.add(number, line)
+            self.add(number, line)
 
     def _is_record(self, line: str) -> bool:
         """Takes what the kernel writes; whether it is that."""
@@ -314,7 +313,7 @@ class _LogReader(Sink):
         if suppressed:
             self.log.suppressed += int(suppressed[1])
         elif kind is not None and kind[0] in audit_records.SECCOMP_KINDS:
-            record = audit_records.record_in(line, kind[1], self.reader.tables)
+            record = audit_records.record_in(line, kind[1], self.tables)
             if self._is_new(record):
                 actions = tuple(ACTIONS.get(half, "UNNAMED") for half in record.halves)
                 outcome = Outcome(actions, record.halves[0] if actions == ("UNNAMED",) else None)
@@ -341,10 +340,10 @@ class _LogReader(Sink):
                 self._take(number, line)
             except Malformed as why:
                 self.log.faults += [(number, str(why))] * (len(self.log.faults) < EVENTS)
-        self.reader.end()
+        self.end()
         for who, members, call in self._signals:
             try:
-                self.log.add(_of_signal(who, members, call, self.reader.tables))
+                self.log.add(_of_signal(who, members, call, self.tables))
             except Malformed as why:
                 self.log.faults.append((0, str(why)))
         numbered = [printed for printed in self._killed if printed.is_its_number()]

@@ -306,12 +306,12 @@ def read_needs(names: Sequence[str], judges: Judges, runtime: str | None = None)
     log = traces.read_traces(names, judges.looked_at, judges.tables, architecture)
     log.begin(runtime or "")
     for name in runtimes.OWN_CALLS[runtime].names if runtime else ():
-        if log.reader.number_of(architecture, name) is not None:
+        if log.number_of(architecture, name) is not None:
             log.keep(0, architecture, name, {})
     needs = Needs(log, [], {}, len(names) > 1, judges.taken)
     traced: list[TracedCall] = []
     for (architecture, name, values), seen in log.calls.items():
-        in_architecture, number = JUDGED[architecture], log.reader.number_of(architecture, name)
+        in_architecture, number = JUDGED[architecture], log.number_of(architecture, name)
         if number is None:
             shown = in_architecture.marked(name)
             needs.unnamed[shown] = needs.unnamed.get(shown, 0) + seen.count

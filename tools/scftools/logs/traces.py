@@ -10,7 +10,6 @@ from __future__ import annotations
 
 import itertools
 import json
-import re
 from collections import Counter
 from collections.abc import Callable, Sequence
 
@@ -23,7 +22,7 @@ from ..model.calls import SKIPPED
 from ..model.profiles import ALLOWING, Refused
 from ..model.tables import Table
 from ..forms import kubernetes, strace
-from ..forms.strace_reader import PENDING, Line, Reader, Sink
+from ..forms.strace_reader import PENDING, Line, Reader
 from . import audit_records, events
 
 # What isn't judged, by its name in JSON: syscalls of architectures without a table, those without a result or without a
@@ -75,34 +74,32 @@ class Seen:
     errnos: frozenset[int] = frozenset()
 
 
-class Trace(Sink):
+class Trace(Reader):
     """The syscalls of logs by the OCI names of their architectures, their names, and the values of those arguments that
     are asked for."""
 
     def __init__(self, looked_at: Callable[[str, str], tuple[int, ...]], tables: dict[str, Table],
                  own_architecture: str = NATIVE):
         self.looked_at = looked_at
-        self.reader = Reader(self, tables, own_architecture)
         self.calls: dict[tuple[str, str, tuple], Seen] = {}
         self.unjudged: Counter[str] = Counter()
         # syscalls before a filter is loaded, or in a process without one, and whether a log shows one being loaded
         self.before_load, self.has_load = 0, False
-        # whether a log is the kernel's, which may not say what it lost; what is the matter with the first record that
-        # can't be read; and the file's name
-        self.is_of_kernel, self.fault, self.name = False, "", ""
-        # what earlier logs have
-        self._earlier: tuple[dict[tuple[str, str, tuple], Seen], Counter[str]] = {}, Counter()
+        # whether a log is the kernel's, which may not say what it lost; and what is the matter with the first record
+        # that can't be read
+        self.is_of_kernel, self.fault = False, ""
         self._names: set[tuple[str, str]] = set()
-        # whether strace prints registers (-e raw=all), None before the first syscall
-        self._is_raw: bool | None = None
         # the syscalls of perf trace that were interrupted, by thread and name
         self._interrupted: dict[tuple[str, str], None] = {}
+        super().__init__(tables, own_architecture)
 
-    def begin(self, name: str) -> None:
-        """Begins a log, with processes of its own."""
+    def begin(self, name: str = "") -> None:
+        """Begins the log of a file, with processes of its own."""
+        # whether strace prints registers (-e raw=all), None before the first syscall
         self.name, self._is_raw = name, None
+        # what earlier logs have
         self._earlier = {call: replace(seen) for call, seen in self.calls.items()}, self.unjudged.copy()
-        self.reader.begin()
+        super().begin()
 
     def add(self, number: int, line: str) -> None:
         """Takes a line of a log: one that another program than strace writes, or strace's."""
@@ -114,7 +111,7 @@ class Trace(Sink):
                 match = pattern.match(other) if mark in other else None
                 if match and take(self, number, match) is not False:
                     return
-        self.reader.add(number, line)
+        super().add(number, line)
 
     def show_load(self) -> None:
         calls, unjudged = self._earlier
@@ -124,29 +121,29 @@ class Trace(Sink):
         self.before_load += sum(seen.count for seen in self.calls.values()) - sum(seen.count for seen in calls.values())
         self.calls, self.has_load = calls, True
 
-    def count_unread(self, line: Line, is_call: bool) -> None:
+    def count_unread(self, is_call: bool) -> None:
         self.unjudged[CUT if is_call else UNREAD] += 1
 
-    def take_call(self, who: str | None, line: Line, name: re.Match[str], architecture: str, is_cut: bool,
-                  is_judged: bool) -> None:
+    def take_call(self, line: Line, architecture: str, is_judged: bool) -> None:
         """Counts a call; where the log doesn't say which of several it is, each of them."""
         if self._is_raw is None:
             self._is_raw = RAW_BEGIN.match(line.text) is not None
-        numbered = self.reader.numbered(architecture, name[1])
+        name = line.name[1]
+        numbered = self.numbered(architecture, name)
         if not is_judged:
             self.before_load += 1
-        elif not (is_cut or len(line.text) >= LONGEST_LINE or " = " in line.text):
-            self.count_unread(line, bool(numbered))
-        elif architecture != self.reader.own_architecture and architecture not in self.reader.tables:
+        elif not (line.is_cut or len(line.text) >= LONGEST_LINE or " = " in line.text):
+            self.count_unread(bool(numbered))
+        elif architecture != self.own_architecture and architecture not in self.tables:
             self.unjudged[FOREIGN] += 1
         else:
-            errno = strace.errno_in(line.text, name) or 0
-            for named in [named for named in numbered if line.nr in (None, numbered[named])] or [name[1]]:
+            errno = strace.errno_in(line.text, line.name) or 0
+            for named in [named for named in numbered if line.nr in (None, numbered[named])] or [name]:
                 arguments: strace.Arguments = {}
                 if self.looked_at(architecture, named):
                     # (strace prints it by its name, or as what it does)
-                    arguments = strace.registers_in(line.text, name, architecture, bool(self._is_raw)) \
-                        if named == name[1] else {0: (libseccomp.CALL_NUMBERS[named][name[1]],)}
+                    arguments = strace.registers_in(line.text, line.name, architecture, bool(self._is_raw)) \
+                        if named == name else {0: (libseccomp.CALL_NUMBERS[named][name],)}
                 self.keep(line.number, architecture, named, arguments, errno=errno)
 
     def keep(self, number: int, architecture: str, name: str, arguments: strace.Arguments, count: int = 1,
@@ -156,7 +153,7 @@ class Trace(Sink):
         call = architecture, name, tuple(arguments.get(at) for at in self.looked_at(architecture, name))
         if call not in self.calls and len(self.calls) >= MOST_REMEMBERED and (
                 len(self.calls) >= 2 * MOST_REMEMBERED or call[:2] in self._names
-                or self.reader.number_of(architecture, name) is None):
+                or self.number_of(architecture, name) is None):
             self.unjudged[MORE] += count
             return
         self._names.add(call[:2])
@@ -168,20 +165,20 @@ class Trace(Sink):
 
     def _by_name(self, number: int, name: str, count: int = 1) -> None:
         """Counts a syscall by its name, in the log's own architecture."""
-        self.keep(number, self.reader.own_architecture, name, {}, count)
+        self.keep(number, self.own_architecture, name, {}, count)
 
     def _by_number(self, number: int, nr: int, arguments: dict[int, int], count: int = 1,
                    architecture: int | None = None) -> None:
         """Counts a syscall by its number in a record, and that of its architecture, by default the log's own."""
-        audit_value = JUDGED[self.reader.own_architecture].number if architecture is None else architecture
+        audit_value = JUDGED[self.own_architecture].number if architecture is None else architecture
         of = architectures.architecture_of_record(audit_value, nr)
         if nr == SKIPPED:
             self.unjudged[UNREAD] += count
-        elif of is None or of not in self.reader.tables:
+        elif of is None or of not in self.tables:
             self.unjudged[FOREIGN] += count
         else:
             nr -= JUDGED[of].first
-            names = self.reader.tables[of].names_of(nr)
+            names = self.tables[of].names_of(nr)
             values = {at: (value & strace.GREATEST_ARGUMENTS[of],) for at, value in arguments.items()}
             self.keep(number, of, names[0] if names else f"syscall_{nr:#x}", values, count)
 
@@ -194,9 +191,9 @@ class Trace(Sink):
         self.is_of_kernel = self.is_of_kernel or line[:kind[1] + 1].endswith(("type=1326 ", "type=1300 "))
         try:
             if kind[0] in audit_records.SYSCALL_KINDS:
-                nr, architecture, values = audit_records.syscall_in(line, kind[1], self.reader.tables)
+                nr, architecture, values = audit_records.syscall_in(line, kind[1], self.tables)
             else:
-                record = audit_records.record_in(line, kind[1], self.reader.tables)
+                record = audit_records.record_in(line, kind[1], self.tables)
                 nr, architecture, values = record.number, record.architecture, {}
             self._by_number(number, nr, values, architecture=architecture)
         except audit_records.Malformed as why:
@@ -278,5 +275,5 @@ def read_traces(names: Sequence[str], looked_at: Callable[[str, str], tuple[int,
             if trace.unjudged[MORE] > MOST_NOT_REMEMBERED:
                 raise program.ToolError(f"the log has more than {MOST_REMEMBERED + MOST_NOT_REMEMBERED} syscalls with "
                                         "other names or arguments: log fewer syscalls by strace -e trace=..")
-        trace.reader.end()
+        trace.end()
     return trace

@@ -21,5 +21,5 @@ def read_log(text, looked_at=(), *tables):
     log = traces.Trace(lambda *_: tuple(looked_at), *(tables or [{}]))
     for number, line in enumerate(text.split("\n"), 1):
         log.add(number, line)
-    log.reader.end()
+    log.end()
     return log

@@ -230,7 +230,7 @@ class Recorded(Traced):
         log.begin("log")
         for number, line in enumerate(strace.log_lines(self.path("log")), 1):
             log.add(number, line)
-        log.reader.end()
+        log.end()
         self.assertIn((NATIVE, "syscall_0x3e8", ((1 << 31,), (1 << 63 | 5,), (0,), (2 ** 64 - 1,))), log.calls)
 
     def test_least_profile(self):
