@@ -10,12 +10,12 @@ from collections import Counter
 from collections.abc import Iterator, Sequence
 
 from ..base import output, program
-from ..base.values import dataclass, field, replace
+from ..base.values import dataclass, field
 from ..model.tables import Table
 from ..ask import client
 from . import causes
 from .causes import CONTRADICTS, FITS, Cause, Inputs, cases, verdict_of
-from .events import EVENTS, Event, EventLog, Failure, Failures
+from .events import EVENTS, EventLog, Failures, Found
 
 WANTED = ("no syscall that a filter may have answered is in it: an audit record has type=1326 or type=SECCOMP, and of "
           "strace the line is wanted of a syscall that failed, or the one before SIGSYS")
@@ -24,32 +24,13 @@ SHOWN = 5
 
 
 @dataclass
-class Denial:
-    """Failures of one syscall by one entry: the last one, how many, its place among all failures, and what all of them
-    have in common."""
-
-    event: Event
-    count: int
-    last: int
-    common: Event
-    # whether a process that ended with a failure had none after it
-    has_ended: bool = False
-
-    def add(self, failure: Failure) -> None:
-        self.count += failure.count
-        pairs = zip(self.common.arguments, failure.event.arguments)
-        self.common = replace(self.common, arguments=tuple(old if old == new else None for old, new in pairs))
-        if failure.last > self.last:
-            self.event, self.last = failure.event, failure.last
-
-
-@dataclass
 class Denials:
     """What the failures of a log are: denials; those with EPERM, which a process without a capability gets
     (capabilities(7)), but not by the profile, or the filters; and those of which it isn't known."""
 
-    of: list[Denial] = field(default_factory=list)
-    by_other_cause: list[Failure] = field(default_factory=list)
+    # of a denial the failures are of one syscall by one entry
+    of: list[Found] = field(default_factory=list)
+    by_other_cause: list[Found] = field(default_factory=list)
     unknown: int = 0
 
     @property
@@ -61,7 +42,7 @@ def denials_of(failures: Failures, given: Inputs) -> Denials:
     """Which failures are denials by the profile, or else by the filters. Raises Refusal."""
     denials, stack = Denials(), given.of_profile if given.profile is not None else given.of_filters
     # by what is reported together, the syscall, its errno and the entry, and what that is of each kind of failure
-    by_key: dict[tuple[object, ...], Denial] = {}
+    by_key: dict[tuple[object, ...], Found] = {}
     key_of: dict[tuple[object, ...], tuple[object, ...]] = {}
     for kind, failure in failures.of.items():
         answers = list(cases(stack, failure.event))
@@ -74,7 +55,7 @@ def denials_of(failures: Failures, given: Inputs) -> Denials:
             call = next(case.call for case in answers if case.fits)
             entry = None if given.profile is None else given.reason(call).entry
             key = key_of[kind] = call.number, call.architecture, failure.event.outcome, entry
-            by_key.setdefault(key, Denial(failure.event, 0, failure.last, failure.event)).add(failure)
+            by_key.setdefault(key, Found(failure.event)).add(failure.event, failure.last, failure.count)
     for kinds in failures.of_ended:
         last = next((key_of[kind] for kind in kinds if kind in key_of), None)
         if last is not None:
@@ -85,7 +66,7 @@ def denials_of(failures: Failures, given: Inputs) -> Denials:
     return denials
 
 
-def _counted(failures: Sequence[Denial | Failure], table: Table) -> str:
+def _counted(failures: Sequence[Found], table: Table) -> str:
     counts: Counter[str] = Counter()
     for failure in failures:
         counts[failure.event.call.describe(table)] += failure.count
@@ -142,7 +123,7 @@ def log_report(log: EventLog, given: Inputs, is_all: bool) -> LogReport:
     """The causes of a log's events and of its denials; where there are none, or scf refuses the profile or a filter, of
     a syscall that failed."""
     failed = [failure.event for failure in log.failures.of.values()]
-    given = given.on([*(event for event, _ in log.events.values()), *failed, *filter(None, [log.last_failure])])
+    given = given.on([*(found.event for found in log.events.values()), *failed, *filter(None, [log.last_failure])])
     denied, failure = None, log.last_failure
     if given.profile is not None or given.filters:
         try:
@@ -152,15 +133,10 @@ def log_report(log: EventLog, given: Inputs, is_all: bool) -> LogReport:
             failure = next(iter(failed), None)
     if failure is not None and not log.events:
         log.add(failure)
-    of_events = [causes.cause_of(event, count, given) for event, count in log.events.values()]
-    report = LogReport(log, given, of_events, denied)
-    if denied is not None:
-        report.shown = len(denied.of) if is_all else SHOWN
-        for denial in denied.of[:report.shown]:
-            cause = causes.cause_of(denial.event, denial.count, given, denial.common)
-            cause.has_ended = denial.has_ended
-            report.causes.append(cause)
-    return report
+    denials = [] if denied is None else denied.of
+    shown = len(denials) if is_all else SHOWN
+    reported = [causes.cause_of(found, given) for found in (*log.events.values(), *denials[:shown])]
+    return LogReport(log, given, reported, denied, shown)
 
 
 def log_report_lines(report: LogReport) -> Iterator[str]:

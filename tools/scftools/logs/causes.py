@@ -20,7 +20,7 @@ from ..forms import refusals
 from ..forms.filters import Filter
 from ..report import decisions, listing
 from . import amendment
-from .events import CORE, RECORD, STRACE, Event
+from .events import CORE, RECORD, STRACE, Event, Found
 
 # Whether what is known of an answer is what filters or a profile answer.
 FITS, CONTRADICTS, UNKNOWN_FIT = "fits", "contradicts", "unknown"
@@ -151,16 +151,17 @@ class Inputs:
 
 @dataclass
 class Cause:
-    """An event, how often it was found, what is given beside it, and what changes of the profile allow it."""
+    """What was found, what is given beside it, and what changes of the profile allow it."""
 
-    event: Event
-    count: int
+    found: Found
     given: Inputs
     profile: Side | None = None
     filters: Side | None = None
     changes: list[amendment.Amendment] = field(default_factory=list)
-    # of a failed syscall, whether a process that ended with a failure had no other denied one after it
-    has_ended: bool = False
+
+    @property
+    def event(self) -> Event:
+        return self.found.event
 
     @property
     def status(self) -> int:
@@ -177,9 +178,9 @@ def _side(name: str, stack_of: Callable[[], AnsweringStack], event: Event) -> Si
     return Side(name, answers, verdict_of(answers))
 
 
-def cause_of(event: Event, count: int, given: Inputs, common: Event | None = None) -> Cause:
-    """What a profile and filters say of an event; of several, with what is `common` to all, which the changes allow."""
-    cause = Cause(event, count, given)
+def cause_of(found: Found, given: Inputs) -> Cause:
+    """What a profile and filters say of an event; the changes allow what several have in common."""
+    cause, event = Cause(found, given), found.event
     if given.filters:
         name = "the filter" if len(given.filters) == 1 else "the filters"
         cause.filters = _side(name, lambda: given.of_filters, event)
@@ -192,7 +193,7 @@ def cause_of(event: Event, count: int, given: Inputs, common: Event | None = Non
     denied = next((case for case in cause.profile.cases if not case.answer.allows), None)
     if denied is not None:
         reason = given.reason(denied.call)
-        cause.changes = list(amendment.amendments(given.profile, common or event, reason, given.tables))
+        cause.changes = list(amendment.amendments(given.profile, found.common, reason, given.tables))
     return cause
 
 
@@ -206,9 +207,9 @@ def _of_event(cause: Cause) -> Iterator[str]:
     """What the source says, and what it doesn't."""
     event = cause.event
     kind = "failures" if event.outcome.is_result else "records"
-    more = f"; such {kind}: {cause.count}" if cause.count > 1 else ""
+    more = f"; such {kind}: {cause.found.count}" if cause.found.count > 1 else ""
     yield f"{event.who()}: the syscall is {event.call.describe(cause.given.table)}{more}"
-    if cause.has_ended:
+    if cause.found.has_ended:
         yield "it is the last denied syscall of a process that ended with a failure"
     if event.outcome.is_result:
         code = event.outcome.data or 0
@@ -325,7 +326,7 @@ def cause_json(cause: Cause) -> dict[str, object]:
 
     value: dict[str, object] = {
         "status": cause.status, "source": event.source, "process": event.process, "name": event.name,
-        "count": cause.count, "call": event.call.as_json(given.table), "actions": list(event.outcome.actions),
+        "count": cause.found.count, "call": event.call.as_json(given.table), "actions": list(event.outcome.actions),
         "data": event.outcome.data,
         "arguments": [None if values is None else list(map(hex, values)) for values in event.arguments]}
     if cause.profile is not None:
@@ -333,5 +334,5 @@ def cause_json(cause: Cause) -> dict[str, object]:
     if cause.filters is not None:
         value["filters"] = _side_json(cause.filters, cause, of_filters)
     if event.outcome.is_result:
-        value["has_ended"] = cause.has_ended
+        value["has_ended"] = cause.found.has_ended
     return {**value, "changes": [change.as_json() for change in cause.changes]}

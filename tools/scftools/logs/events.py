@@ -10,7 +10,7 @@ from collections.abc import Iterable, Iterator, Sequence
 from ..base.values import Any, Pattern, dataclass, field, replace
 from ..model import tables
 from ..model.answers import ACTIONS, DOES, MAX_ERRNO, NUMBERS_OF_ERRNOS, Answer
-from ..model.architectures import JUDGED, Architecture
+from ..model.architectures import JUDGED
 from ..model.calls import Call
 from ..model.tables import Table
 from ..forms import strace
@@ -64,7 +64,7 @@ class Outcome:
 
     def describe(self) -> str:
         """The actions, and what the kernel does with the syscall."""
-        if self.half is not None and self.actions == ("UNNAMED",):
+        if self.half is not None:
             return f"UNNAMED {self.half << 16:#010x}: {DOES['UNNAMED']}"
         if len(self.actions) > 1:
             return f"{', '.join(self.actions[:-1])} or {self.actions[-1]}"
@@ -109,20 +109,30 @@ class Event:
         return f"process {self.process}" + (f" ({self.name})" if self.name else "")
 
 
-@dataclass
-class Failure:
-    """A syscall that failed: how often, and where it failed last, by the order of all failures of the log."""
+class Found:
+    """An event, or several that are reported together: one of them, what all have in common, how many they are, where
+    the last one stands among all, and of denials whether a process that ended with a failure had none after them."""
 
-    event: Event
-    count: int = 0
-    last: int = 0
+    def __init__(self, event: Event):
+        self.event = self.common = event
+        self.count = self.last = 0
+        self.has_ended = False
+
+    def add(self, event: Event, last: int, count: int = 1) -> None:
+        """Takes so many more, of which the last one stands there."""
+        self.count += count
+        if event.arguments != self.common.arguments:
+            pairs = zip(self.common.arguments, event.arguments)
+            self.common = replace(self.common, arguments=tuple(old if old == new else None for old, new in pairs))
+        if last > self.last:
+            self.event, self.last = event, last
 
 
 @dataclass
 class Failures:
     """The failed syscalls of a strace log that are behind the loading of a filter, if the log shows one."""
 
-    of: dict[tuple[object, ...], Failure] = field(default_factory=dict)
+    of: dict[tuple[object, ...], Found] = field(default_factory=dict)
     # those of each process that ended with a failure, the last one first
     of_ended: list[list[tuple[object, ...]]] = field(default_factory=list)
     # how many there are, how many stand before the loading of a filter, and how many are of more kinds than are kept
@@ -132,19 +142,18 @@ class Failures:
 
     def add(self, event: Event) -> None:
         self.count += 1
-        if event.key not in self.of and len(self.of) >= FAILURES:
+        if event.key in self.of or len(self.of) < FAILURES:
+            self.of.setdefault(event.key, Found(event)).add(event, self.count)
+        else:
             self.beyond += 1
-            return
-        failure = self.of.setdefault(event.key, Failure(event))
-        failure.event, failure.count, failure.last = event, failure.count + 1, self.count
 
 
 @dataclass
 class EventLog:
-    """What a text has: its events with how often each stands in it, faulty records, records that the kernel left out,
-    and what failed in a strace log."""
+    """What a text has: its events, faulty records, records that the kernel left out, and what failed in a strace
+    log."""
 
-    events: dict[tuple[object, ...], list] = field(default_factory=dict)
+    events: dict[tuple[object, ...], Found] = field(default_factory=dict)
     failures: Failures = field(default_factory=Failures)
     # the last syscall of a strace log, if it failed and may be under a filter
     last_failure: Event | None = None
@@ -157,10 +166,8 @@ class EventLog:
     beyond: int = 0
 
     def add(self, event: Event) -> None:
-        if event.key in self.events:
-            self.events[event.key][1] += 1
-        elif len(self.events) < EVENTS:
-            self.events[event.key] = [event, 1]
+        if event.key in self.events or len(self.events) < EVENTS:
+            self.events.setdefault(event.key, Found(event)).count += 1
         else:
             self.beyond += 1
 
@@ -180,19 +187,22 @@ def ways_of(arguments: Iterable[tuple[int, Sequence[int] | None]]) -> Iterator[d
 
 @dataclass(frozen=True)
 class _Printed:
-    """A syscall as strace prints it: its process, the text, the match of its name, its number in the table of its
-    architecture, and this."""
+    """A syscall as strace prints it: its process, the text, its number in the table of its architecture, and this by
+    its OCI name."""
 
     who: str | None
     text: str
-    name: re.Match[str]
     number: int
-    architecture: Architecture
+    architecture: str
+
+    @functools.cached_property
+    def name(self) -> re.Match[str]:
+        return strace.CALL_NAME.match(self.text)
 
     @property
     def record(self) -> tuple[int, int]:
         """The numbers that a record of it has, the syscall's and the architecture's."""
-        return self.architecture.first + self.number, self.architecture.number
+        return JUDGED[self.architecture].first + self.number, JUDGED[self.architecture].number
 
     def is_its_number(self) -> bool:
         """Whether it returned its own number, as the kernel shows one that it kills for."""
@@ -201,7 +211,7 @@ class _Printed:
         return result is not None and result[1] in (str(self.record[0]), hex(self.record[0]))
 
     def event(self, outcome: Outcome, pointer: int | None = None) -> Event:
-        shown = strace.registers_in(self.text, self.name, self.architecture.oci)
+        shown = strace.registers_in(self.text, self.name, self.architecture)
         return Event(STRACE, Call(*self.record, pointer), outcome, tuple(shown.get(at) for at in range(6)),
                      int(self.who) if self.who else None)
 
@@ -212,12 +222,8 @@ class _Printed:
         return None if errno is None else self.event(Outcome(FAILS, data=errno, is_result=True))
 
 
-@functools.lru_cache(EVENTS)
-def _printed(who: str | None, text: str, number: int, architecture: str) -> _Printed:
-    """A printed syscall. Programs repeat some thousands of times, and then it is read once."""
-    name = strace.CALL_NAME.match(text)
-    assert name
-    return _Printed(who, text, name, number, JUDGED[architecture])
+# (programs repeat some thousands of times, and then each is read once)
+_printed = functools.lru_cache(EVENTS)(_Printed)
 
 
 def _of_signal(who: str | None, members: str, call: _Printed | None, tables_of: dict[str, Table]) -> Event:

@@ -474,7 +474,7 @@ class Lines(Causes):
 
     def event(self, text):
         log = events.read_events(text.split("\n"), TABLE)
-        return [event for event, _ in log.events.values()], log
+        return [found.event for found in log.events.values()], log
 
     def test_each_form(self):
         for text in (WRITTEN, f"[  624.561849] {WRITTEN}", f"[Fri Nov 27 05:35:00 2026] {WRITTEN}",
@@ -567,7 +567,7 @@ class Lines(Causes):
                                    (1795757800.0, [])):
                 with unittest.mock.patch.object(why, "started", lambda _, begun=begun: begun):
                     log_read, _ = why.of_process(options, None, TABLE)
-                self.assertEqual([event.call.number for event, _ in log_read.events.values()], numbers, begun)
+                self.assertEqual([found.event.call.number for found in log_read.events.values()], numbers, begun)
 
     def test_values_that_no_kernel_writes(self):
         for old, new, says in (("syscall=41", "syscall=4294967296", "=4294967296 isn't a number up to 4294967295"),
@@ -650,7 +650,8 @@ class Journals(Causes):
     def numbers(self, text):
         log = events.read_events(text.split("\n"), TABLE)
         self.assertEqual((log.faults, log.failures.count), ([], 0))
-        return [(event.call.number, event.process, count) for event, count in log.events.values()], log.suppressed
+        return [(found.event.call.number, found.event.process, found.count)
+                for found in log.events.values()], log.suppressed
 
     def test_entries_of_the_kernel_and_of_audit(self):
         suppressed = "audit: kauditd_printk_skb: 12 callbacks suppressed"
