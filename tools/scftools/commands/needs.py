@@ -123,7 +123,7 @@ def main():
     try:
         needs = requirements.read_needs(options.logs, judges, options.runtime)
         if options.least:
-            status, text, remarks = least_profile.make(needs, judges, options.widen)
+            status, text, remarks = least_profile.make(needs, options.widen)
             if options.kubernetes is not None:
                 text = kubernetes.printed(json.loads(text), options.kubernetes)
             output.put(text)
@@ -131,9 +131,9 @@ def main():
             status, remarks = program.UNKNOWN if needs.isnt_whole else program.SUCCESS, requirements.log_remarks(needs)
             output.put_lines(requirements.count_lines(needs))
         else:
-            table, remarks = judges.tables[architectures.NATIVE], ()
+            remarks = ()
             status = put_block(Block(needs.status, lambda: requirements.needs_lines(needs),
-                                     lambda: requirements.needs_json(needs, table)), options.json)
+                                     lambda: requirements.needs_json(needs)), options.json)
         output.flush()
         program.say(*remarks)
         return status

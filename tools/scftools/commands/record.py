@@ -72,7 +72,7 @@ def main():
             log = os.path.join(folder, "log")
             ended = tracing.run_traced(log, RECORDING_OPTIONS, traced)
             needs = requirements.read_needs([log], judges, options.runtime)
-        status, text, remarks = least_profile.make(needs, judges, options.widen)
+        status, text, remarks = least_profile.make(needs, options.widen)
         with open(options.file, "w", encoding="utf-8") as file:
             file.write(text)
         program.say(*remarks)

@@ -20,9 +20,8 @@ from ..forms.engines import PASSED_ON
 from ..lint.watchlist import FALLBACKS
 from ..report.covers import Alternative
 from ..report.profile_of import entry_of
-from . import requirements
 from .events import ways_of
-from .requirements import NOT_ALLOWED, Judgement, Judges, Needs, TracedCall
+from .requirements import NOT_ALLOWED, Judges, NeededCall, Needs, log_remarks
 from .traces import Seen
 
 # What each least profile allows where the base does and an architecture has it: a process calls these, which a log
@@ -63,9 +62,9 @@ class Draft:
 class Making:
     """The making of a least profile of what a log needs; with `widens` also of what the base denies."""
 
-    def __init__(self, needs: Needs, judges: Judges, widens: bool):
-        self.needs, self.judges, self.widens = needs, judges, widens
-        self.top = judges.of(judges.own.oci).top
+    def __init__(self, needs: Needs, widens: bool):
+        self.needs, self.judges, self.widens = needs, needs.judges, widens
+        self.top = self.judges.of(self.judges.own.oci).top
         default = default_of(self.top)
         self.draft = Draft(Answer("ERRNO", 1) if default.allows else default)
         # the names that are allowed under the base's conditions, and what is allowed beyond the base
@@ -77,76 +76,73 @@ class Making:
         self.remarks: list[str] = []
         self.status = program.UNKNOWN if needs.isnt_whole else program.SUCCESS
         self.architectures = list(dict.fromkeys(
-            judgement.traced.architecture for judgement in needs.judged if not judgement.is_foreign)) or [judges.own]
+            needed.architecture for needed in needs.judged if not needed.is_foreign)) or [self.judges.own]
 
-    def _of_any(self, architecture: Architecture, name: str) -> Judgement | None:
+    def _of_any(self, architecture: Architecture, name: str) -> NeededCall | None:
         """What the base answers to a syscall, whatever its arguments are; None if the architecture doesn't have it."""
         number = self.judges.tables[architecture.oci].number_of(name)
         if number is None:
             return None
         arguments = tuple((index, None) for index in self.judges.looked_at(architecture.oci, name))
-        return self.judges.of(architecture.oci).of(TracedCall(architecture, number, name, arguments, Seen()))
+        return self.judges.of(architecture.oci).of(NeededCall(architecture, number, name, arguments, Seen()))
 
     def _as_base(self, architecture: Architecture, name: str) -> list[Alternative]:
         """The conditions under which the base allows a syscall; none if it doesn't."""
-        judgement = self._of_any(architecture, name)
-        if judgement is None or judgement.disposition not in (ALLOWED, DEPENDS):
+        any_call = self._of_any(architecture, name)
+        if any_call is None or any_call.disposition not in (ALLOWED, DEPENDS):
             return []
-        return self.judges.of(architecture.oci).alternatives(judgement.traced)
+        return self.judges.of(architecture.oci).alternatives(any_call)
 
     def _older(self, architecture: Architecture, newer: str) -> str | None:
         """The older syscall that libc calls where the base answers ENOSYS to this one, if the base allows that."""
-        older, judgement = OLDER.get(newer), self._of_any(architecture, newer)
-        is_enosys = judgement is not None and judgement.disposition == NOT_ALLOWED and judgement.answers == {ENOSYS}
+        older, any_call = OLDER.get(newer), self._of_any(architecture, newer)
+        is_enosys = any_call is not None and any_call.disposition == NOT_ALLOWED and any_call.answers == {ENOSYS}
         return older if older and is_enosys and self._as_base(architecture, older) else None
 
-    def _widen(self, judgement: Judgement, denies: str, by: str) -> None:
+    def _widen(self, needed: NeededCall, denies: str, by: str) -> None:
         """Allows what is needed, by what, and the base denies, or may deny."""
-        name, alternatives = judgement.traced.name, map(_conditions, ways_of(judgement.traced.arguments))
-        self.denied.append(f"allowed, though PROFILE {denies} it: {requirements.describe(judgement)} ({by})")
-        self.draft.add(name, ())
-        self.beyond.setdefault(name, {}).update(dict.fromkeys(alternatives))
+        self.denied.append(f"allowed, though PROFILE {denies} it: {needed.describe()} ({by})")
+        self.draft.add(needed.name, ())
+        self.beyond.setdefault(needed.name, {}).update(dict.fromkeys(_each_way(needed)))
 
-    def _deny(self, judgement: Judgement, has_name: bool, by: str) -> None:
+    def _deny(self, needed: NeededCall, has_name: bool, by: str) -> None:
         """Notes what is needed, by what, and the base denies, or allows it on request."""
-        if self.widens and has_name and not judgement.is_foreign:
-            self._widen(judgement, "denies", by)
+        if self.widens and has_name and not needed.is_foreign:
+            self._widen(needed, "denies", by)
         else:
-            self.denied.append(f"needed, and PROFILE denies it: {requirements.describe(judgement)} ({by})")
+            self.denied.append(f"needed, and PROFILE denies it: {needed.describe()} ({by})")
             self.status = program.NEGATIVE
 
-    def _take_denied(self, judgement: Judgement, has_name: bool) -> None:
-        traced, errnos = judgement.traced, judgement.traced.seen.errnos
-        answers = {min(answer.data, MAX_ERRNO) if answer.action == "ERRNO" else 0 for answer in judgement.answers}
-        is_answered = errnos == answers and 0 not in errnos
-        if has_name and self._older(traced.architecture, traced.name):
+    def _take_denied(self, needed: NeededCall, has_name: bool) -> None:
+        answers = {min(answer.data, MAX_ERRNO) if answer.action == "ERRNO" else 0 for answer in needed.answers}
+        is_answered = needed.seen.errnos == answers and 0 not in answers
+        if has_name and self._older(needed.architecture, needed.name):
             return
         if not is_answered or self.widens and self.needs.log.has_load:
-            self._deny(judgement, has_name, requirements.where(traced.seen, self.needs.are_several))
+            self._deny(needed, has_name, self.needs.where(needed))
             return
-        self.failing[traced.shown_name] = None
-        answer = next(iter(judgement.answers))
+        self.failing[needed.shown_name] = None
+        answer = next(iter(needed.answers))
         if has_name and answer != self.draft.default:
-            self.draft.add(traced.name, map(_conditions, ways_of(traced.arguments)), answer)
+            self.draft.add(needed.name, _each_way(needed), answer)
 
-    def _take(self, judgement: Judgement) -> None:
-        traced = judgement.traced
-        has_name = self.judges.tables[traced.architecture.oci].number_of(traced.name) is not None
-        if judgement.disposition == NOT_ALLOWED:
-            self._take_denied(judgement, has_name)
+    def _take(self, needed: NeededCall) -> None:
+        has_name = self.judges.tables[needed.architecture.oci].number_of(needed.name) is not None
+        if needed.disposition == NOT_ALLOWED:
+            self._take_denied(needed, has_name)
             return
-        if judgement.disposition == DEPENDS and self.widens and has_name and not traced.unknown:
-            self._widen(judgement, "may deny", requirements.where(traced.seen, self.needs.are_several))
+        if needed.disposition == DEPENDS and self.widens and has_name and not needed.unknown:
+            self._widen(needed, "may deny", self.needs.where(needed))
             return
         if not has_name:
-            self.remarks.append(f"{traced.shown_name} has no name, and isn't in the profile")
-        elif judgement.disposition in (ALLOWED, DEPENDS):
-            self.draft.add(traced.name, map(_conditions, judgement.passing))
-        if judgement.disposition == DEPENDS and traced.unknown:
-            self.as_base.add(traced.name)
-        if judgement.disposition != ALLOWED:
-            self.remarks.append(f"{requirements.describe(judgement)}: no more is allowed than by PROFILE")
-        if judgement.disposition != ALLOWED or not has_name:
+            self.remarks.append(f"{needed.shown_name} has no name, and isn't in the profile")
+        elif needed.disposition in (ALLOWED, DEPENDS):
+            self.draft.add(needed.name, map(_conditions, needed.passing))
+        if needed.disposition == DEPENDS and needed.unknown:
+            self.as_base.add(needed.name)
+        if needed.disposition != ALLOWED:
+            self.remarks.append(f"{needed.describe()}: no more is allowed than by PROFILE")
+        if needed.disposition != ALLOWED or not has_name:
             self.status = self.status or program.UNKNOWN
 
     def _keep_fallbacks(self, architecture: Architecture, called: Sequence[str]) -> None:
@@ -162,23 +158,22 @@ class Making:
     def _keep_always(self, architecture: Architecture) -> None:
         """Allows what a process calls that a log needn't show."""
         for name in ALWAYS_CALLED:
-            judgement = self._of_any(architecture, name)
-            if judgement is None or name in self.draft.allowed:
+            any_call = self._of_any(architecture, name)
+            if any_call is None or name in self.draft.allowed:
                 continue
-            if judgement.disposition == NOT_ALLOWED and self.widens:
-                self._deny(judgement, True, "a process calls it to continue or to end")
-            elif judgement.disposition != NOT_ALLOWED:
+            if any_call.disposition == NOT_ALLOWED and self.widens:
+                self._deny(any_call, True, "a process calls it to continue or to end")
+            elif any_call.disposition != NOT_ALLOWED:
                 self.as_base.add(name)
                 self.draft.add(name, ())
 
     def profile(self) -> dict[str, object]:
         """The profile, which isn't proved yet."""
-        for judgement in self.needs.judged:
-            self._take(judgement)
+        for needed in self.needs.judged:
+            self._take(needed)
         for architecture in self.architectures:
-            called = [judgement.traced.name for judgement in self.needs.judged
-                      if judgement.traced.architecture == architecture]
-            self._keep_fallbacks(architecture, called)
+            self._keep_fallbacks(architecture, [needed.name for needed in self.needs.judged
+                                                if needed.architecture == architecture])
             self._keep_always(architecture)
         for name, alternatives in self.draft.allowed.items():
             # (where values aren't known, or are too many, the base's conditions)
@@ -200,6 +195,10 @@ def _conditions(values: dict[int, int]) -> Alternative:
     return tuple(Condition(index, EQUAL, value, 0) for index, value in values.items())
 
 
+def _each_way(needed: NeededCall) -> Iterator[Alternative]:
+    return map(_conditions, ways_of(needed.arguments))
+
+
 def check(made: bytes, judges: Judges, listed: Iterable[Architecture]) -> None:
     """Ends the tool if scf doesn't prove that a profile allows no more than the base."""
     tables = Tables({each.oci: judges.tables[each.oci] for each in listed}, judges.listed.reading)
@@ -211,13 +210,13 @@ def check(made: bytes, judges: Judges, listed: Iterable[Architecture]) -> None:
                                 f"{verdict.word}", status)
 
 
-def make(needs: Needs, judges: Judges, widens: bool) -> tuple[int, str, list[str]]:
+def make(needs: Needs, widens: bool) -> tuple[int, str, list[str]]:
     """The status, the least profile as JSON, and lines on it. Raises Refusal."""
-    making = Making(needs, judges, widens)
+    making, judges = Making(needs, widens), needs.judges
     text = json.dumps(making.profile(), indent=4) + "\n"
     if not (widens and making.denied):
         check(profiles.read_as(text.encode(), judges.listed.reading), judges, making.architectures)
-    remarks = [*requirements.log_remarks(needs), *making.denied, *making.remarks]
+    remarks = [*log_remarks(needs), *making.denied, *making.remarks]
     if making.failing:
         failing, more = output.some(list(making.failing), MOST_LISTED), "; --widen allows them" * needs.log.has_load
         remarks.append(f"left out, since PROFILE answers as they fail in the log: {failing}{more}")

@@ -5,10 +5,11 @@ All that the profile answers is known by its regions: those of a syscall with th
 """
 from __future__ import annotations
 
+from collections import Counter
 from collections.abc import Iterator, Sequence
 
 from ..base import output, program
-from ..base.values import dataclass
+from ..base.values import dataclass, replace
 from ..model import entries, profiles, tables
 from ..model.answers import ALLOWED, DEPENDS, KILL_PROCESS, Answer
 from ..model.architectures import JUDGED, NATIVE, Architecture, machine_architecture
@@ -40,15 +41,23 @@ MOST_WAYS = 2000
 
 
 @dataclass(frozen=True)
-class TracedCall:
+class NeededCall:
     """A syscall in a log: its architecture, its number in the table of this, its name, and the values of the arguments
-    that a condition tests; None if one isn't known."""
+    that a condition tests, None if one isn't known; and whether the profile allows it, or it depends, with examples."""
 
     architecture: Architecture
     number: int
     name: str
     arguments: tuple[tuple[int, tuple[int, ...] | None], ...]
     seen: Seen
+    disposition: str = ""
+    # scf's line where it isn't allowed
+    line: str = ""
+    allowed: Call | None = None
+    denied: tuple[Call, Answer] | None = None
+    # the known values with which it is allowed whatever the others are, and the answers that don't allow it
+    passing: Sequence[dict[int, int]] = ()
+    answers: frozenset[Answer] = frozenset()
 
     @property
     def unknown(self) -> list[int]:
@@ -68,26 +77,19 @@ class TracedCall:
     def shown_name(self) -> str:
         return self.architecture.marked(self.name)
 
+    @property
+    def is_foreign(self) -> bool:
+        """Whether the profile doesn't list its architecture."""
+        return self.line == reasons.FOREIGN
+
     def describe(self) -> str:
+        """The line of one that isn't allowed, or not always."""
         shown = "".join(f" arg {index} {values[0]:#x}" for index, values in self.arguments
                         if values is not None and len(values) == 1)
-        return self.architecture.marked(f"{self.number} {self.name}{shown}")
-
-
-@dataclass(frozen=True)
-class Judgement:
-    """The result for a syscall: allowed, not allowed, or it depends; with examples and their answers."""
-
-    traced: TracedCall
-    disposition: str
-    line: str = ""
-    allowed: Call | None = None
-    denied: tuple[Call, Answer] | None = None
-    # the known values with which it is allowed whatever the others are, and the answers that don't allow it
-    passing: tuple[dict[int, int], ...] = ()
-    answers: frozenset[Answer] = frozenset()
-    # whether the profile doesn't list its architecture
-    is_foreign: bool = False
+        result = self.line
+        if self.disposition == DEPENDS:
+            result = f"depends on arg{'s' * (len(self.unsure) > 1)} {', '.join(map(str, self.unsure))}"
+        return self.architecture.marked(f"{self.number} {self.name}{shown} {result}")
 
 
 @dataclass
@@ -96,15 +98,22 @@ class Needs:
     each with how often it was met."""
 
     log: Trace
-    judged: list[Judgement]
+    judges: Judges
+    judged: list[NeededCall]
     unnamed: dict[str, int]
     # whether there are several logs, whose names lines then say
     are_several: bool
-    # as what a log is taken that doesn't say its architecture, if that isn't this machine's
-    taken: str
 
-    def of(self, disposition: str) -> list[Judgement]:
-        return [judgement for judgement in self.judged if judgement.disposition == disposition]
+    def of(self, disposition: str) -> list[NeededCall]:
+        return [needed for needed in self.judged if needed.disposition == disposition]
+
+    def where(self, needed: NeededCall) -> str:
+        """Where a syscall stands in the logs."""
+        seen = needed.seen
+        if not seen.line:
+            return f"made by {seen.log} itself, before it executes the program"
+        log = f"'{seen.log}'" if self.are_several else "the log"
+        return f"{'once' if seen.count == 1 else f'{seen.count} times, first'} in line {seen.line} of {log}"
 
     @property
     def isnt_whole(self) -> bool:
@@ -136,35 +145,36 @@ class Judge:
         self.looked = {name: tuple(sorted(indices)) for number, indices in looked.items() if number is not None
                        for name in (*table.names_of(number), f"syscall_{number:#x}")}
 
-    def of(self, traced: TracedCall) -> Judgement:
-        call = traced.call
+    def of(self, needed: NeededCall) -> NeededCall:
+        """A syscall with what the profile says of it."""
+        call = needed.call
         allowed, denied, passing = [], [], []
-        for values in ways_of(traced.arguments):
+        for values in ways_of(needed.arguments):
             denied_before = len(denied)
             for region in self._lookup.of_number(call):
                 if region.answer is not None and region.has(values):
                     shown = region.call_of(call.number, call.architecture, values)
                     if shown is None:
-                        return Judgement(traced, UNDECIDED, UNDECIDED)
+                        return replace(needed, disposition=UNDECIDED, line=UNDECIDED)
                     (allowed if region.answer.allows else denied).append((shown, region))
             passing += [values] if allowed and len(denied) == denied_before else []
         if not self._lookup.is_finished:
-            return Judgement(traced, UNDECIDED, UNFINISHED)
-        if denied:
-            call, by = denied[0]
-            return Judgement(traced, DEPENDS if allowed else NOT_ALLOWED, by.line, allowed[0][0] if allowed else None,
-                             (call, by.answer), tuple(passing), frozenset(region.answer for _, region in denied),
-                             by.line == reasons.FOREIGN)
-        if allowed:
-            return Judgement(traced, ALLOWED, allowed=allowed[0][0], passing=tuple(passing))
-        return Judgement(traced, NOT_ALLOWED, reasons.FOREIGN, denied=(call, KILL_PROCESS), is_foreign=True)
+            return replace(needed, disposition=UNDECIDED, line=UNFINISHED)
+        if not allowed and not denied:
+            return replace(needed, disposition=NOT_ALLOWED, line=reasons.FOREIGN, denied=(call, KILL_PROCESS))
+        needed = replace(needed, disposition=ALLOWED, allowed=allowed[0][0] if allowed else None, passing=passing)
+        if not denied:
+            return needed
+        shown, by = denied[0]
+        return replace(needed, disposition=DEPENDS if allowed else NOT_ALLOWED, line=by.line, denied=(shown, by.answer),
+                       answers=frozenset(region.answer for _, region in denied))
 
-    def alternatives(self, traced: TracedCall) -> list[Alternative]:
+    def alternatives(self, needed: NeededCall) -> list[Alternative]:
         """The conditions of which some hold of exactly those arguments with which a syscall is allowed, as far as the
         regions say; none if there are none, or too many."""
-        sets = Sets(traced.architecture.bits, Steps())
+        sets = Sets(needed.architecture.bits, Steps())
         try:
-            allowed = sets.union(arguments_of(sets, region) for region in self._lookup.of_number(traced.call)
+            allowed = sets.union(arguments_of(sets, region) for region in self._lookup.of_number(needed.call)
                                  if region.is_decided and region.answer.allows)
             return [] if allowed == EMPTY_SET else Covers(sets).of_set(allowed) or []
         except TooMany:
@@ -202,28 +212,11 @@ class Judges:
         return self.of(architecture).looked.get(name, ()) if architecture in self.listed.of else ()
 
 
-def where(seen: Seen, are_several: bool) -> str:
-    """Where a syscall stands in the logs."""
-    if not seen.line:
-        return f"made by {seen.log} itself, before it executes the program"
-    log = f"'{seen.log}'" if are_several else "the log"
-    return f"{'once' if seen.count == 1 else f'{seen.count} times, first'} in line {seen.line} of {log}"
-
-
-def describe(judgement: Judgement) -> str:
-    """A syscall that isn't allowed, or not always."""
-    result = judgement.line
-    if judgement.disposition == DEPENDS:
-        unsure = judgement.traced.unsure
-        result = f"depends on arg{'s' * (len(unsure) > 1)} {', '.join(map(str, unsure))}"
-    return f"{judgement.traced.describe()} {result}"
-
-
 def log_remarks(needs: Needs) -> Iterator[str]:
     """Lines on the log's architectures, and on what in it wasn't judged."""
-    if needs.taken:
-        yield needs.taken
-    for architecture in dict.fromkeys(each.traced.architecture for each in needs.judged if each.is_foreign):
+    if needs.judges.taken:
+        yield needs.judges.taken
+    for architecture in dict.fromkeys(needed.architecture for needed in needs.judged if needed.is_foreign):
         yield (f"{architecture.name} syscalls aren't allowed, since the profile doesn't list {architecture.oci}: "
                "engines' filters kill for them")
     elsewhere = tables.names_elsewhere() if needs.unnamed else ()
@@ -248,13 +241,13 @@ def log_remarks(needs: Needs) -> Iterator[str]:
 
 def needs_lines(needs: Needs) -> Iterator[str]:
     """The text output: what isn't allowed, what depends, and counts."""
-    for judgement in [each for disposition in (NOT_ALLOWED, DEPENDS, UNDECIDED) for each in needs.of(disposition)]:
-        yield describe(judgement)
-        if judgement.disposition == DEPENDS and judgement.allowed and judgement.denied:
-            call, answer = judgement.denied
-            with_allowed, with_others = (" ".join(map(hex, each.arguments)) for each in (judgement.allowed, call))
+    for needed in [each for disposition in (NOT_ALLOWED, DEPENDS, UNDECIDED) for each in needs.of(disposition)]:
+        yield needed.describe()
+        if needed.disposition == DEPENDS and needed.allowed and needed.denied:
+            call, answer = needed.denied
+            with_allowed, with_others = (" ".join(map(hex, each.arguments)) for each in (needed.allowed, call))
             yield f"# allowed with args {with_allowed}; with args {with_others} it is {answer}"
-        yield f"# {where(judgement.traced.seen, needs.are_several)}"
+        yield f"# {needs.where(needed)}"
     yield from output.notes(log_remarks(needs))
     counts = ", ".join(f"{disposition} {len(needs.of(disposition))}"
                        for disposition in (ALLOWED, NOT_ALLOWED, DEPENDS, UNDECIDED)
@@ -264,35 +257,31 @@ def needs_lines(needs: Needs) -> Iterator[str]:
 
 def count_lines(needs: Needs) -> list[str]:
     """How often the logs have each syscall, the most frequent first: lines NAME COUNT."""
-    counts: dict[str, int] = {}
-    for judgement in needs.judged:
-        name = judgement.traced.shown_name
-        counts[name] = counts.get(name, 0) + judgement.traced.seen.count
+    counts: Counter[str] = Counter()
+    for needed in needs.judged:
+        counts[needed.shown_name] += needed.seen.count
     return [f"{name} {count}" for name, count in sorted(counts.items(), key=lambda item: (-item[1], item[0]))]
 
 
-def needs_json(needs: Needs, table: Table) -> dict[str, object]:
-    calls = []
-    for judgement in needs.judged:
-        traced = judgement.traced
-        shown: dict[str, object] = {
-            **({} if traced.architecture.oci == NATIVE else {"architecture": traced.architecture.name}),
-            "number": traced.number, "name": traced.name, "disposition": judgement.disposition,
-            "count": traced.seen.count,
-            "line": traced.seen.line, "log": traced.seen.log,
-            "depends_on": traced.unsure if judgement.disposition == DEPENDS else [],
-            "arguments": {str(index): None if values is None else list(map(hex, values))
-                          for index, values in traced.arguments}}
-        if judgement.denied:
-            (call, answer), reason = judgement.denied, reasons.region_reason(judgement.line)
-            shown["not_allowed"] = {"call": call.as_json(table), "answer": answer.as_json(), "reason": reason.by,
-                                    **({} if reason.entry is None else {"entry": reason.entry})}
-        if judgement.allowed and judgement.disposition == DEPENDS:
-            shown["allowed"] = judgement.allowed.as_json(table)
-        if judgement.disposition == UNDECIDED:
-            shown["verdict"] = judgement.line
-        calls.append(shown)
-    return {"calls": calls,
+def _call_json(needed: NeededCall, table: Table) -> dict[str, object]:
+    depends = needed.disposition == DEPENDS
+    shown: dict[str, object] = {
+        **({} if needed.architecture.oci == NATIVE else {"architecture": needed.architecture.name}),
+        "number": needed.number, "name": needed.name, "disposition": needed.disposition, "count": needed.seen.count,
+        "line": needed.seen.line, "log": needed.seen.log, "depends_on": needed.unsure if depends else [],
+        "arguments": {str(index): None if values is None else list(map(hex, values))
+                      for index, values in needed.arguments}}
+    if needed.denied:
+        (call, answer), reason = needed.denied, reasons.region_reason(needed.line)
+        shown["not_allowed"] = {"call": call.as_json(table), "answer": answer.as_json(), "reason": reason.by,
+                                **({} if reason.entry is None else {"entry": reason.entry})}
+    if needed.allowed and depends:
+        shown["allowed"] = needed.allowed.as_json(table)
+    return {**shown, **({"verdict": needed.line} if needed.disposition == UNDECIDED else {})}
+
+
+def needs_json(needs: Needs) -> dict[str, object]:
+    return {"calls": [_call_json(needed, needs.judges.tables[NATIVE]) for needed in needs.judged],
             "not_judged": {"names": needs.unnamed, **{kind: needs.log.unjudged[kind] for kind in UNJUDGED},
                            "before_load": needs.log.before_load}}
 
@@ -308,8 +297,8 @@ def read_needs(names: Sequence[str], judges: Judges, runtime: str | None = None)
     for name in runtimes.OWN_CALLS[runtime].names if runtime else ():
         if log.number_of(architecture, name) is not None:
             log.keep(0, architecture, name, {})
-    needs = Needs(log, [], {}, len(names) > 1, judges.taken)
-    traced: list[TracedCall] = []
+    needs = Needs(log, judges, [], {}, len(names) > 1)
+    calls: list[NeededCall] = []
     for (architecture, name, values), seen in log.calls.items():
         in_architecture, number = JUDGED[architecture], log.number_of(architecture, name)
         if number is None:
@@ -317,9 +306,9 @@ def read_needs(names: Sequence[str], judges: Judges, runtime: str | None = None)
             needs.unnamed[shown] = needs.unnamed.get(shown, 0) + seen.count
         else:
             arguments = tuple(zip(judges.looked_at(architecture, name), values))
-            traced.append(TracedCall(in_architecture, number, name, arguments, seen))
+            calls.append(NeededCall(in_architecture, number, name, arguments, seen))
     ways, order = 0, list(JUDGED)
-    for call in sorted(traced,
+    for call in sorted(calls,
                        key=lambda call: (order.index(call.architecture.oci), call.number, call.name, call.seen.line)):
         ways += sum(1 for _ in ways_of(call.arguments))
         if ways <= MOST_WAYS and client.has_time():
