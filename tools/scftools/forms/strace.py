@@ -20,8 +20,7 @@ Arguments = "dict[int, tuple[int, ...] | None]"
 LONGEST_LOG, LONGEST_ARGUMENT = 1 << 30, 1 << 12
 # The greatest value of an argument by architectures.
 GREATEST_ARGUMENTS = {name: architecture.greatest for name, architecture in JUDGED.items()}
-# What comes before a syscall: a process, a time, the instruction pointer and the syscall number (strace(1): -f, -Y; -t,
-# -tt, -ttt, -r; -i; -n).
+# Before a syscall, by strace(1): a process (-f, -Y), a time (-t, -tt, -ttt, -r), the pointer (-i), its number (-n).
 LEADER = Pattern(
     r"(?:\[pid +([0-9]{1,10})(?:<[^>]{0,64}>)?\] |([0-9]{1,10})(?:<[^>]{0,64}>)? +)?"
     r" *(?:[0-9]{2}:[0-9]{2}:[0-9]{2}(?:\.[0-9]+)? +|[0-9]+\.[0-9]+ +)?(?:\(\+ *[0-9.]+\) )?"
@@ -77,24 +76,20 @@ def _number_in(text: str, architecture: str) -> int | None:
         number = constants.numbers_on(architecture).get(name) if name else \
             int(hexadecimal, 16) if hexadecimal else int(octal, 8) if octal else \
             int(decimal) if re.fullmatch("-?(?:0|[1-9].*)", decimal) else None
-        is_alone = part.start() == 0 and part.end() == len(text)
-        if number is None or number < 0 and not is_alone:
+        # (a negative number stands alone)
+        if number is None or number < 0 and part[0] != text:
             return None
-        whole, at = number if is_alone else whole | number, part.end()
-        if at == len(text):
+        whole, at = whole | number, part.end() + 1
+        if at > len(text):
             return whole
-        if text[at] != "|":
+        if text[at - 1] != "|":
             return None
-        at += 1
 
 
 def values_of(text: str, architecture: str = NATIVE) -> tuple[int, ...] | None:
-    """The values that the register of a printed argument may have on the architecture of an OCI name, None if it isn't
-    known.
-
-    Of many arguments strace prints the lower 32 bits, and of a mode the lower 16. The bits above, as far as conditions
-    compare them, are taken as zero, or, if the highest printed bit is set, also as the sign.
-    """
+    """The values that the register of a printed argument may have on an OCI architecture, None if it isn't known. Of
+    many arguments strace prints the lower 32 bits, and of a mode the lower 16. The bits above, as far as conditions
+    compare them, are taken as zero, or, if the highest printed bit is set, also as the sign."""
     text = text.strip().removesuffix(UNFINISHED_MARK.strip()).rstrip()
     number = _number_in(text, architecture) if len(text) <= LONGEST_ARGUMENT else None
     if number is None or not -(1 << 63) <= number < 1 << 64:
@@ -160,19 +155,16 @@ def _in_registers(name: str, printed: list[str], architecture: str = NATIVE) -> 
 
 def is_own(line: str) -> bool:
     """Whether a line begins as one of strace's does: with a syscall, or with what became of one or of a process."""
-    leader = LEADER.match(line)
-    assert leader
-    return CALL_NAME.match(line, leader.end()) is not None or line.startswith(("<... ", "--- ", "+++ "), leader.end())
+    at = LEADER.match(line).end()
+    return CALL_NAME.match(line, at) is not None or line.startswith(("<... ", "--- ", "+++ "), at)
 
 
 def registers_in(text: str, name: re.Match[str], architecture: str = NATIVE, is_raw: bool = False) -> Arguments:
-    """The values that the registers of a printed syscall may have, by their arguments' indexes; with `is_raw` strace
-    printed the registers themselves."""
+    """The values that the registers of a printed syscall may have, by arguments; `is_raw`: strace printed registers."""
     printed = arguments_in(text, name.end())[0]
     if is_raw:
-        numbers = [RAW.fullmatch(argument.strip()) for argument in printed]
-        return {at: (int(match[1], 16) & GREATEST_ARGUMENTS[architecture],) if match else None
-                for at, match in enumerate(numbers)}
+        numbers = enumerate(RAW.fullmatch(argument.strip()) for argument in printed)
+        return {at: (int(match[1], 16) & GREATEST_ARGUMENTS[architecture],) if match else None for at, match in numbers}
     return {at: values_of(argument, architecture)
             for at, argument in _in_registers(name[1], printed, architecture).items()}
 

@@ -13,8 +13,7 @@ from ..base.values import Pattern, dataclass, field
 from ..model import libseccomp
 from ..model.architectures import JUDGED, NATIVE
 from ..model.tables import Table
-from .strace import (
-    CALL_NAME, FORKS, LEADER, RESULT, RESUMED, UNFINISHED_MARK, arguments_in, registers_in)
+from .strace import CALL_NAME, FORKS, LEADER, RESULT, RESUMED, UNFINISHED_MARK, arguments_in, registers_in
 
 # The most bytes of a syscall that isn't finished yet.
 LONGEST_BEGINNING = 1 << 13
@@ -51,7 +50,6 @@ class Line:
     @classmethod
     def read(cls, number: int, text: str) -> Line:
         leader = LEADER.match(text)
-        assert leader
         return cls(leader[1] or leader[2], number, int(leader[3]) if leader[3] else None,
                    text[leader.end():].rstrip("\r"), len(text) >= LONGEST_LINE)
 
@@ -86,8 +84,7 @@ class Confinement:
         return bool(self.filters.get(who))
 
     def begins(self, who: str | None, makers: Iterable[str | None]) -> None:
-        """A thread has a line: if it is new, it is one that is expected, that one of these is making, or the first
-        process, which has a number now."""
+        """A thread has a line: a new one is expected, made by one of these, or the first, which has a number now."""
         if who in self.process:
             self._expected.pop(who or "", None)
             return
@@ -220,16 +217,14 @@ class Reader:
             self.confinement.ends(read)
 
     def number_of(self, architecture: str, name: str) -> int | None:
-        """The number of a syscall in the table of an architecture; strace prints one without a name as
-        `syscall_0x1c3`."""
+        """The number of a syscall in an architecture's table; strace prints one without a name as syscall_0x1c3."""
         if architecture not in self.tables:
             return None
         without_name = re.fullmatch("syscall_0x([1-9a-f][0-9a-f]{0,7})", name)
         return int(without_name[1], 16) if without_name else self.tables[architecture].number_of(name)
 
     def _numbered(self, architecture: str, name: str) -> dict[str, int]:
-        """The syscalls that strace prints by a name, and their numbers: what socketcall and ipc do it prints by its own
-        name."""
+        """The syscalls that strace prints by a name, as also what socketcall and ipc do, and their numbers."""
         multiplexers = libseccomp.CALL_NUMBERS.items() if architecture in libseccomp.MULTIPLEXING else ()
         names = [name, *(multiplexer for multiplexer, its in multiplexers if name in its)]
         numbers = {syscall: self.number_of(architecture, syscall) for syscall in names}

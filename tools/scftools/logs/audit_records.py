@@ -15,7 +15,7 @@ from ..base import output, program
 from ..base.values import Pattern, dataclass
 from ..model import architectures
 from ..model.answers import ACTIONS
-from ..model.calls import SKIPPED
+from ..model.calls import SKIPPED, Call
 from ..model.tables import Table
 
 ACTIONS_LOGGED = "/proc/sys/kernel/seccomp/actions_logged"
@@ -32,8 +32,7 @@ LOGGED = rf"(?:{STAMP} )?(?:[A-Za-z0-9_.-]{{1,255}} )?"
 OF_KERNEL = (rf"(?:(?:<[0-9]{{1,3}}>)?(?:[a-z0-9]{{1,9}} {{0,9}}:[a-z]{{1,9}} {{0,9}}: ?)?"
              rf"(?:{STAMP}(?:\[ {{0,9}}[CT][0-9]{{1,10}}\])? )?|{LOGGED}kernel: (?:{STAMP} )?)")
 OF_AUDITD = rf"(?:{LOGGED}audisp[a-z-]{{1,9}}(?:\[[0-9]{{1,10}}\])?: )?(?:node=\S{{1,255}} )?"
-# How the two kinds of records begin: by their number (linux/audit.h), auditd's name, and journald's, where a record is
-# one that it took from the kernel itself.
+# How both kinds of records begin: by number (linux/audit.h), auditd's name, and journald's for what the kernel wrote.
 BARE_KINDS = Pattern(r"type=(1326|SECCOMP|1300|SYSCALL) (?:msg=)?(?=audit\()")
 RECORD_KINDS = Pattern(rf"\A(?:(?:{OF_KERNEL}(?:audit: )?|{OF_AUDITD}){BARE_KINDS.pattern}|"
                        rf"{LOGGED}audit(?:\[[0-9]{{1,10}}\])?: (SECCOMP|SYSCALL) )")
@@ -46,7 +45,7 @@ OTHER = Pattern(rf"\A(?:(?:{OF_KERNEL}(?:audit: )?|{OF_AUDITD})type=[A-Z0-9_\[\]
 TAIL = Pattern(r" sig=(\S+)(?: arch=(\S+))? syscall=(\S+) compat=(\S+) ip=(\S+) code=(\S+)")
 WHO = Pattern(r" pid=(\S+) comm=(\"[^\"]*\"|\S+)")
 # (the text of an errno, which ausearch -i prints, has no hundred characters)
-CALL = Pattern(r" arch=(\S+) syscall=(\S+)(?: per=\S+)?(?: success=\S+ exit=.{0,100}?)?"
+CALL_FIELDS = Pattern(r" arch=(\S+) syscall=(\S+)(?: per=\S+)?(?: success=\S+ exit=.{0,100}?)?"
                r" a0=(\S+) a1=(\S+) a2=(\S+) a3=(\S+) ")
 # When a record was written, in seconds since 1970, and its serial number, which no two of a kind share.
 STAMP_OF_RECORD = Pattern(r"audit\((([0-9]{1,12}\.[0-9]{3}):[0-9]{1,20})\)")
@@ -70,9 +69,7 @@ class Malformed(Exception):
 class SeccompRecord:
     """An audit record of seccomp: its syscall, the high halves that the answer may have, and the process."""
 
-    number: int
-    architecture: int
-    pointer: int
+    call: Call
     halves: tuple[int, ...]
     process: int | None
     name: str
@@ -155,15 +152,15 @@ def record_in(line: str, at: int, tables: dict[str, Table]) -> SeccompRecord:
     _, arch, number, _, pointer, code = tails[-1].groups()
     architecture, stamp = architecture_of(arch), STAMP_OF_RECORD.search(line, at, at + 64)
     process = who[1] if who and re.fullmatch("[0-9]{1,10}", who[1]) else None
-    return SeccompRecord(number_of(number, architecture, tables), architecture,
-                         _number(pointer, "ip", (1 << 64) - 1, 16), halves_of(code), int(process) if process else None,
-                         name_of(who[2]) if who else "", stamp[1] if stamp else None)
+    call = Call(number_of(number, architecture, tables), architecture, _number(pointer, "ip", (1 << 64) - 1, 16))
+    return SeccompRecord(call, halves_of(code), int(process) if process else None, name_of(who[2]) if who else "",
+                         stamp[1] if stamp else None)
 
 
 def syscall_in(line: str, at: int, tables: dict[str, Table]) -> tuple[int, int, dict[int, int]]:
     """Of the record that begins there, of a syscall that a rule of auditctl logs: its number, its architecture, and its
     first four arguments, which the kernel writes in hexadecimal, and ausearch -i also by names."""
-    match = CALL.search(line[at:].partition(ENRICHED)[0])
+    match = CALL_FIELDS.search(line[at:].partition(ENRICHED)[0])
     if not match:
         raise Malformed("the record is cut: it has no arch= syscall= a0= a1= a2= a3=")
     arch, number, *arguments = match.groups()
@@ -195,8 +192,7 @@ def kernel_lines() -> Iterator[str]:
                 continue
             except BlockingIOError:
                 return
-            # (one of facility 0, which messages that programs write there never have, and that begins as one, since the
-            # kernel puts words of processes into others)
+            # (of facility 0, which a program's message never has, and at its beginning: others have words of processes)
             head, _, text = message.partition(b";")
             number = head.partition(b",")[0]
             if number.isdigit() and int(number) >> 3 == 0 and text.startswith(b"audit: type="):

@@ -14,7 +14,7 @@ from ..base.values import dataclass, field
 from ..model.tables import Table
 from ..ask import client
 from . import causes
-from .causes import CONTRADICTS, FITS, Cause, Inputs, cases, verdict_of
+from .causes import CONTRADICTS, FITS, Cause, Inputs, verdict_of
 from .events import EVENTS, EventLog, Failures, Found
 
 WANTED = ("no syscall that a filter may have answered is in it: an audit record has type=1326 or type=SECCOMP, and of "
@@ -45,7 +45,7 @@ def denials_of(failures: Failures, given: Inputs) -> Denials:
     by_key: dict[tuple[object, ...], Found] = {}
     key_of: dict[tuple[object, ...], tuple[object, ...]] = {}
     for kind, failure in failures.of.items():
-        answers = list(cases(stack, failure.event))
+        answers = stack.cases(failure.event)
         verdict = verdict_of(answers) if answers else None
         if verdict == CONTRADICTS:
             denials.by_other_cause += [failure] if failure.event.outcome.data == errno.EPERM else []
@@ -60,8 +60,7 @@ def denials_of(failures: Failures, given: Inputs) -> Denials:
         last = next((key_of[kind] for kind in kinds if kind in key_of), None)
         if last is not None:
             by_key[last].has_ended = True
-    # the most telling first: what a process ended after; then what was tried least, since libraries try and ignore the
-    # same again and again; then the last
+    # first what a process ended after; then what was tried least, as libraries ignore what they repeat; then the last
     denials.of = sorted(by_key.values(), key=lambda denial: (not denial.has_ended, denial.count, -denial.last))
     return denials
 
@@ -120,8 +119,7 @@ class LogReport:
 
 
 def log_report(log: EventLog, given: Inputs, is_all: bool) -> LogReport:
-    """The causes of a log's events and of its denials; where there are none, or scf refuses the profile or a filter, of
-    a syscall that failed."""
+    """The causes of a log's events and denials; of a failed syscall if there are none, or scf refuses what is given."""
     failed = [failure.event for failure in log.failures.of.values()]
     given = given.on([*(found.event for found in log.events.values()), *failed, *filter(None, [log.last_failure])])
     denied, failure = None, log.last_failure

@@ -43,19 +43,17 @@ class Case:
     fits: bool | None
 
 
-def rank(half: int) -> int:
-    """By which the kernel chooses among answers, of which this is the high half: the least is the strictest
-    (seccomp_run_filters in kernel/seccomp.c compares them as signed numbers)."""
-    return half - (1 << 16) if half & 0x8000 else half
-
-
 class AnsweringStack:
     """The regions of filters, or of a profile, None if they are unfinished, and what answers a single record."""
 
     def __init__(self, region_list: Sequence[Region] | None, answer: Callable[[Call], Answer | None]):
         self.regions, self.answer = Lookup(region_list), answer
 
-    def case(self, event: Event, values: dict[int, int]) -> Case | None:
+    def cases(self, event: Event) -> tuple[Case, ...]:
+        """The answers to an event, in each way that its known arguments may be."""
+        return tuple(filter(None, (self._case(event, values) for values in event.ways())))
+
+    def _case(self, event: Event, values: dict[int, int]) -> Case | None:
         """The answer to an event with these arguments, None if scf doesn't say."""
         call = event.with_values(values)
         known_values = values if call.pointer is None else {**values, POINTER: call.pointer}
@@ -75,11 +73,6 @@ class AnsweringStack:
             if region.is_decided and event.outcome.has(region.answer):
                 return Case(region.call_of(call.number, call.architecture, values), region.answer, False, True)
         return Case(call, answer, False, False if are_decided else None)
-
-
-def cases(stack: AnsweringStack, event: Event) -> Iterator[Case]:
-    """The answers of filters to a syscall, in each way that its known arguments may be."""
-    yield from filter(None, (stack.case(event, values) for values in event.ways()))
 
 
 def verdict_of(cases: Sequence[Case]) -> str:
@@ -172,7 +165,7 @@ class Cause:
 
 def _side(name: str, stack_of: Callable[[], AnsweringStack], event: Event) -> Side:
     try:
-        answers = tuple(cases(stack_of(), event))
+        answers = stack_of().cases(event)
     except client.Refusal as why:
         return Side(name, refusal=why)
     return Side(name, answers, verdict_of(answers))
@@ -216,9 +209,8 @@ def _of_event(cause: Cause) -> Iterator[str]:
         yield (f"it failed with {ERRNOS.get(code, f'errno {code}')}: by ERRNO {code}, by a tracer or a supervisor, or "
                f"by the kernel itself, which strace doesn't show")
     else:
-        data = "" if event.outcome.data is None or len(event.outcome.actions) == 1 else \
-            f", with {event.outcome.data} as data"
-        yield f"the action is {event.outcome.describe()}{data}"
+        has_data = event.outcome.data is not None and len(event.outcome.actions) > 1
+        yield f"the action is {event.outcome.describe()}" + f", with {event.outcome.data} as data" * has_data
     arguments = {index: values[0] for index, values in enumerate(event.arguments) if values and len(values) == 1}
     if arguments and not event.unknown:
         yield f"its arguments: {_arguments(event.with_values(arguments), cause.given.table)}"
@@ -229,15 +221,16 @@ def _of_event(cause: Cause) -> Iterator[str]:
 
 
 def _of_verdict(side: Side, event: Event) -> str:
-    """Whether a party answers as the event was answered, or how its answers stand beside an event that they
-    contradict."""
+    """Whether a party answers as the event was answered, or how its answers stand beside an event they contradict."""
     s, them, be = ("", "them", "are") if side.name.endswith("s") else ("s", "it", "is")
     if side.verdict == UNKNOWN_FIT:
         return f"whether {side.name} answer{s} so with other arguments isn't known"
     if side.verdict == FITS:
         is_for_all = all(case.fits and case.is_for_all for case in side.cases)
         return f"so {side.name} answer{s} it" + ("" if is_for_all else " with such arguments, and not with all")
-    ranks, of_event = [rank(case.answer.word >> 16) for case in side.cases], [*map(rank, event.outcome.halves)]
+    # (the kernel compares these as signed numbers, the least is the strictest: seccomp_run_filters, kernel/seccomp.c)
+    halves = [case.answer.word >> 16 for case in side.cases]
+    ranks, of_event = ([half ^ 0x8000 for half in each] for each in (halves, event.outcome.halves))
     others = f"another filter of the process answered so, or it isn't under {side.name}"
     if min(ranks) > max(of_event):
         itself = "the kernel itself, or " if event.outcome.is_result else ""

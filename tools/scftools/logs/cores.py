@@ -29,9 +29,8 @@ MOST_NOTES, LONGEST_NOTE = 1 << 16, 1 << 12
 
 @dataclass(frozen=True)
 class Layout:
-    """Where what is read stands, for a class of ELF: the header's fields from 0x18 on; a program header, and in it its
-    offset and size; in the note of a thread its process and registers; in that of the signal its union; in that of the
-    process its name."""
+    """Where things stand in a class of ELF: the header's fields from 0x18 on; a program header, its offset and size; in
+    the note of a thread the process and registers, in that of the signal the union, in that of the process the name."""
 
     header: struct.Struct
     segment: struct.Struct

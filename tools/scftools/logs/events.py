@@ -18,9 +18,8 @@ from ..forms.strace_reader import LONGEST_BEGINNING, PENDING, SUPERSEDED, Line, 
 from . import audit_records, journals
 from .audit_records import Malformed
 
-# The most distinct events and failed syscalls that are kept of a text, the most failed ones of a process that are
-# remembered for its end, and the most values that unknown bits of arguments may take; and the most audit records whose
-# stamps are remembered.
+# The most distinct events and failed syscalls that are kept of a text, failed ones of a process until it ends, ways
+# that arguments with unknown bits may be, and audit records whose stamps are remembered.
 EVENTS, FAILURES, OF_PROCESS, WAYS, STAMPS = 200, 1000, 100, 8, 1 << 16
 RECORD, CORE, STRACE = "the record", "the core", "strace's line"
 # What may end a process with a core, and with SIGSYS that strace doesn't show as a signal first (`__seccomp_filter` of
@@ -37,8 +36,7 @@ ENDED_BADLY = Pattern(r"\+\+\+ (?:killed by|exited with [1-9])")
 
 @dataclass(frozen=True)
 class Outcome:
-    """What is known of an answer: the actions that it may have; of one without a name its high half; and its data, or
-    the errno with which the syscall failed."""
+    """What is known of an answer: the actions that it may have, an unnamed one's high half, and its data or errno."""
 
     actions: tuple[str, ...]
     half: int | None = None
@@ -150,8 +148,7 @@ class Failures:
 
 @dataclass
 class EventLog:
-    """What a text has: its events, faulty records, records that the kernel left out, and what failed in a strace
-    log."""
+    """A text's events, faulty records, how many records the kernel left out, and what failed in a strace log."""
 
     events: dict[tuple[object, ...], Found] = field(default_factory=dict)
     failures: Failures = field(default_factory=Failures)
@@ -187,8 +184,7 @@ def ways_of(arguments: Iterable[tuple[int, Sequence[int] | None]]) -> Iterator[d
 
 @dataclass(frozen=True)
 class _Printed:
-    """A syscall as strace prints it: its process, the text, its number in the table of its architecture, and this by
-    its OCI name."""
+    """A syscall as strace prints it: its process, the text, its number in a table, and the table's OCI architecture."""
 
     who: str | None
     text: str
@@ -246,8 +242,7 @@ def _of_signal(who: str | None, members: str, call: _Printed | None, tables_of: 
 
 
 class _LogReader(Reader):
-    """What the lines of a log of any kind have. Of a strace log the last syscall of each process is kept, those that
-    SIGSYS ended, and those that failed."""
+    """What a log of any kind has. Of strace's the last syscall of each process is kept, and what SIGSYS ended."""
 
     def __init__(self, lines: Iterable[str], table: Table):
         super().__init__(tables.architecture_tables(JUDGED, table).of)
@@ -323,8 +318,7 @@ class _LogReader(Reader):
             if self._is_new(record):
                 actions = tuple(ACTIONS.get(half, "UNNAMED") for half in record.halves)
                 outcome = Outcome(actions, record.halves[0] if actions == ("UNNAMED",) else None)
-                self.log.add(Event(RECORD, Call(record.number, record.architecture, record.pointer), outcome,
-                                   process=record.process, name=record.name))
+                self.log.add(Event(RECORD, record.call, outcome, process=record.process, name=record.name))
         return True
 
     def _is_new(self, record: audit_records.SeccompRecord) -> bool:

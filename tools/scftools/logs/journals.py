@@ -28,8 +28,7 @@ SOURCE_TIME = Pattern(r"[0-9]{7,18}\Z")
 
 @dataclass
 class Core:
-    """A process that left a core, by its number and name; its signal, 0 if it isn't known, and whether the core is
-    there."""
+    """A process that left a core: its number and name, its signal, 0 if unknown, and whether the core is there."""
 
     process: int
     name: str
@@ -62,9 +61,7 @@ def _parsed(text: str, what: str) -> Any:
 
 def message_in(line: str) -> str:
     """The message of an entry as the kernel's log has it; an empty one if neither the kernel nor audit wrote it.
-
-    journald puts the time and the serial number of a record that it has from audit into members of their own.
-    """
+    journald puts the time and the serial number of a record that it has from audit into members of their own."""
     entry = _parsed(line, "an entry as `journalctl -o json` prints it")
     message = entry.get("MESSAGE")
     if isinstance(message, list) and all(isinstance(byte, int) and 0 <= byte < 256 for byte in message):

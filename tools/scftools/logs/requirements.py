@@ -94,8 +94,7 @@ class NeededCall:
 
 @dataclass
 class Needs:
-    """The result: the logs, of which not all is judged, the syscalls that were, and names that the table doesn't have,
-    each with how often it was met."""
+    """The result: the logs, the judges, the syscalls that were judged, and how often names without a number are met."""
 
     log: Trace
     judges: Judges
@@ -140,8 +139,7 @@ class Judge:
         looked: dict[int | None, set[int]] = {}
         for entry in entries.entries_of(top, table.number_of):
             for name in entry.names if entry.conditions else ():
-                looked.setdefault(table.number_of(name), set()).update(condition.index
-                                                                       for condition in entry.conditions)
+                looked.setdefault(table.number_of(name), set()).update(each.index for each in entry.conditions)
         self.looked = {name: tuple(sorted(indices)) for number, indices in looked.items() if number is not None
                        for name in (*table.names_of(number), f"syscall_{number:#x}")}
 
@@ -287,8 +285,7 @@ def needs_json(needs: Needs) -> dict[str, object]:
 
 
 def read_needs(names: Sequence[str], judges: Judges, runtime: str | None = None) -> Needs:
-    """The syscalls of some logs, with those that a runtime makes before it executes the program, judged. Raises
-    Refusal."""
+    """The judged syscalls of logs, and those that a runtime makes before it executes the program. Raises Refusal."""
     architecture = judges.own.oci
     # this checks the profile before a log is read
     judges.of(architecture)

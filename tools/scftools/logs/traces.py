@@ -35,8 +35,7 @@ RAW_BEGIN = Pattern(r"execve\(0x[0-9a-f]+, (?:0x[0-9a-f]+|0), (?:0x[0-9a-f]+|0)\
 # How an object of Kubernetes begins as YAML.
 YAML_BEGINNINGS = ("apiVersion:", "kind:")
 NAME = "[a-z_][a-z0-9_]{0,63}"
-# perf trace: `0.017 ( 0.002 ms): ls/1234 brk() = 0x1`; one that was interrupted ends with `...`, and goes on behind
-# `... [continued]: `.
+# perf trace: `0.017 ( 0.002 ms): ls/1234 brk() = 0x1`; an interrupted one ends with `...`, then `... [continued]: `.
 PERF = Pattern(rf" *(?:[0-9]+\.[0-9]+|\?) \( *(?:[0-9.]+ ms *)?\): (?:(?:.{{0,64}}?/)?([0-9]{{1,10}}) +)?"
                rf"(?:\.\.\. \[continued\]: ({NAME})\(|({NAME})\()")
 COUNTED = Pattern(rf" +({NAME}) +([0-9]{{1,12}}) +[0-9]{{1,12}}(?: +[0-9]+\.[0-9]+){{4}} +[0-9.]+%")
@@ -65,8 +64,7 @@ LOSSES = Pattern(audit_records.SUPPRESSED.pattern + r"|\ALOST ([0-9]{1,18}) even
 
 @dataclass
 class Seen:
-    """How often something stands in logs, in which line of which one first (0 is no line), and the errnos with which it
-    failed, 0 where it didn't."""
+    """How often something stands in logs, where first (0 is no line), and with which errnos it failed, 0 for none."""
 
     line: int = 0
     count: int = 0
@@ -75,8 +73,7 @@ class Seen:
 
 
 class Trace(Reader):
-    """The syscalls of logs by the OCI names of their architectures, their names, and the values of those arguments that
-    are asked for."""
+    """The syscalls of logs by their architectures' OCI names, their names, and the arguments that are asked for."""
 
     def __init__(self, looked_at: Callable[[str, str], tuple[int, ...]], tables: dict[str, Table],
                  own_architecture: str = NATIVE):
@@ -85,8 +82,7 @@ class Trace(Reader):
         self.unjudged: Counter[str] = Counter()
         # syscalls before a filter is loaded, or in a process without one, and whether a log shows one being loaded
         self.before_load, self.has_load = 0, False
-        # whether a log is the kernel's, which may not say what it lost; and what is the matter with the first record
-        # that can't be read
+        # whether a log is the kernel's, which may not say what it lost; and why the first faulty record can't be read
         self.is_of_kernel, self.fault = False, ""
         self._names: set[tuple[str, str]] = set()
         # the syscalls of perf trace that were interrupted, by thread and name
@@ -148,8 +144,7 @@ class Trace(Reader):
 
     def keep(self, number: int, architecture: str, name: str, arguments: strace.Arguments, count: int = 1,
              errno: int = 0) -> None:
-        """Counts a syscall by its name, with what is asked for of its arguments; the first one of a name that has a
-        number is always kept."""
+        """Counts a syscall with the arguments that are asked for; the first of a name with a number is always kept."""
         call = architecture, name, tuple(arguments.get(at) for at in self.looked_at(architecture, name))
         if call not in self.calls and len(self.calls) >= MOST_REMEMBERED and (
                 len(self.calls) >= 2 * MOST_REMEMBERED or call[:2] in self._names
@@ -194,7 +189,7 @@ class Trace(Reader):
                 nr, architecture, values = audit_records.syscall_in(line, kind[1], self.tables)
             else:
                 record = audit_records.record_in(line, kind[1], self.tables)
-                nr, architecture, values = record.number, record.architecture, {}
+                nr, architecture, values = record.call.number, record.call.architecture, {}
             self._by_number(number, nr, values, architecture=architecture)
         except audit_records.Malformed as why:
             self.fault = self.fault or f"line {number} can't be read: {why}"

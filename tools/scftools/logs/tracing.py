@@ -4,6 +4,7 @@ from __future__ import annotations
 # (the module signal makes enums of its constants)
 import _signal as signal
 import os
+import shutil
 import stat
 from collections.abc import Sequence
 
@@ -31,15 +32,10 @@ def new_name(words: Sequence[str], ending: str) -> str:
     return name
 
 
-def _places_of(name: str) -> list[str]:
-    """Where execvp(3) looks for a program."""
-    return [name] if "/" in name else [os.path.join(folder, name) for folder in os.get_exec_path()]
-
-
 def check_separated(parser: Parser, words: Sequence[str], command: str) -> None:
     """Ends a tool with a usage error if a program stands among its own words, which should be behind `--`."""
     for at, word in enumerate(words):
-        if any(os.path.isfile(path) and os.access(path, os.X_OK) for path in _places_of(word)):
+        if shutil.which(word):
             shown = " ".join([*words[:at], "--", *words[at:]])
             parser.error(f"'{output.escaped(word)}' is a program, and stands behind --: `scf {command} "
                          f"{output.escaped(shown)}`")
@@ -47,14 +43,12 @@ def check_separated(parser: Parser, words: Sequence[str], command: str) -> None:
 
 def _path_of(name: str) -> str:
     """The file of a program. Raises ToolError if there is none."""
-    shown, status = output.escaped(name), NOT_THERE
-    for path in _places_of(name):
-        if os.path.isfile(path):
-            if os.access(path, os.X_OK):
-                return path
-            status = NOT_EXECUTABLE
-    what = f"there is no program '{shown}'" if status == NOT_THERE else f"'{shown}' isn't executable"
-    raise program.ToolError(what, status)
+    path, shown = shutil.which(name), output.escaped(name)
+    if path is None and shutil.which(name, os.F_OK):
+        raise program.ToolError(f"'{shown}' isn't executable", NOT_EXECUTABLE)
+    if path is None:
+        raise program.ToolError(f"there is no program '{shown}'", NOT_THERE)
+    return path
 
 
 def run_traced(log: str, options: Sequence[str], words: Sequence[str]) -> int:

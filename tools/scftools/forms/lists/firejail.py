@@ -31,8 +31,7 @@ SIGN = Pattern(rb"(?m)^(?:--)?(?:seccomp(?:\.(?:32\.)?(?:drop|keep)|\.32|\.block
                rb"^include [^\n /]+\.(?:inc|local|profile)$")
 # Where firejail keeps the files that profiles include and its configuration, and its compiler of filters.
 PROFILES, CONFIGURATION = "/etc/firejail", "firejail.config"
-COMPILERS = tuple(f"/usr/{folder}/firejail/fseccomp" for folder in (
-    "lib/x86_64-linux-gnu", "lib", "lib64", "local/lib"))
+COMPILERS = tuple(f"/usr/{path}/firejail/fseccomp" for path in ("lib/x86_64-linux-gnu", "lib", "lib64", "local/lib"))
 # The deepest nesting of includes, and the most files; the most words of a line that `ignore` compares; how long the
 # compiler may take, in seconds, and how much it may write.
 DEEPEST_INCLUDE, MOST_INCLUDED, MOST_IGNORED, COMPILER_SECONDS, MOST_FILTER_BYTES = 16, 64, 8, 10, 1 << 15
@@ -102,8 +101,7 @@ def group_numbers(group: str) -> list[int]:
         filters = [_contents(path, MOST_FILTER_BYTES) for path in paths if os.path.exists(path)]
     if status:
         raise ListError(f"'{group}' isn't a group of the installed firejail")
-    instructions = [instruction for data in filters
-                    for instruction in [*INSTRUCTION.iter_unpack(data)][HEAD_INSTRUCTIONS:]]
+    instructions = [each for data in filters for each in [*INSTRUCTION.iter_unpack(data)][HEAD_INSTRUCTIONS:]]
     return list(dict.fromkeys(k for code, _, _, k in instructions if code == JUMP | JEQ))
 
 
@@ -156,16 +154,14 @@ def read_lines(data: bytes, settings: StatedSettings, outer: int | None = None, 
 
 @dataclass
 class GroupReader:
-    """Reads lists of syscalls, given the names that firejail knows, None if that isn't known; asks for the numbers of a
-    group once."""
+    """Reads lists of syscalls by the names that firejail knows, None if unknown; asks for each group's numbers once."""
 
     ask: Callable[[str], list[int]] = group_numbers
     known: frozenset[str] | None = field(default_factory=table_names)
     groups: dict[str, list[int]] = field(default_factory=dict)
 
     def names_of(self, word: str, at: int) -> list[str]:
-        """The names of a word: a group's, a number's behind `$`, or its own, of which firejail makes no rule where its
-        table lacks it."""
+        """The names of a word: a group's, a number's behind `$`, or its own; none that firejail's table lacks."""
         if not re.fullmatch(r"@[a-z-]{1,64}|\$[0-9]{1,9}|\w{1,64}", word, re.A):
             raise error_at(at, f"'{word}' isn't a syscall")
         if word[0] not in "@$":

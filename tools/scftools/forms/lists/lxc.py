@@ -71,8 +71,7 @@ def _conditions(line: str, at: int) -> tuple[Condition, ...]:
 
 
 def _rules(lines: list[tuple[int, str]], default: Answer, policy: Policy) -> Iterator[tuple[Rule, str]]:
-    """The rules of version 2, each with its section, as [x86], empty if that is all; the default is that of rules
-    without an action."""
+    """The rules of version 2, each with its section, as [x86], empty for all; one without an action has the default."""
     section, is_ours = "", True
     for at, line in lines:
         if line.startswith("#") or not line:

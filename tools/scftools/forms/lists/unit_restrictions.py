@@ -39,8 +39,7 @@ SCHEDULING_POLICIES = (0, 3, 5)
 # linux/personality.h, by what `systemctl show` prints of Personality=, if anything.
 PERSONALITIES = {"": 0, "x86-64": 0, "x86": 8}
 SXID = (stat.S_ISUID, stat.S_ISGID)
-# How `systemctl show` prints the error number of what is killed: SECCOMP_ERROR_NUMBER_KILL, which is INT_MAX - 1; older
-# systemds print 0.
+# The error number of what is killed in `systemctl show`: SECCOMP_ERROR_NUMBER_KILL, INT_MAX - 1; of older systemds 0.
 KILL_NUMBERS = ("2147483646", "0", "kill", "")
 # asm-generic/errno.h; Python's module lacks it.
 ERRNO_NUMBERS = {**{name: number for number, name in errno.errorcode.items()}, "EHWPOISON": 133}
@@ -147,8 +146,7 @@ def _families(text: str, architecture: str) -> Rules:
 
 
 def _memory(_: str, architecture: str) -> Rules:
-    """MemoryDenyWriteExecute=: memory that is to be written and executed. i386's mmap(2) has its arguments in memory,
-    and its shmat is one of ipc(2)."""
+    """MemoryDenyWriteExecute=: writable code. i386's mmap(2) has its arguments in memory, and its shmat is ipc(2)'s."""
     write, execute, attach = (constants.numbers()[name] for name in ("PROT_WRITE", "PROT_EXEC", "SHM_EXEC"))
     rules = dict.fromkeys(("mprotect", "pkey_mprotect"), with_any(2, [execute]))
     maps = with_all(2, (write, execute))
@@ -211,10 +209,9 @@ def set_in(shown: dict[str, str]) -> dict[str, str]:
     return {**texts, **({"LockPersonality": shown.get("Personality", "")} if "LockPersonality" in texts else {})}
 
 
-def rules_of(settings: dict[str, str], architecture: str) -> Rules:
+def rules_of(settings: dict[str, str], oci: str) -> Rules:
     """The restrictions of settings on an architecture by its OCI name, by the names of syscalls."""
-    return {name: rule for setting, text in settings.items()
-            for name, rule in RULES[setting](text, architecture).items()}
+    return {name: rule for setting, text in settings.items() for name, rule in RULES[setting](text, oci).items()}
 
 
 def numbers_of(version: str) -> tuple[int, int] | None:
