@@ -225,9 +225,7 @@ class Profiles(Lists):
     """firejail's: firejail(1), firejail-profile(5), and the filters of firejail 0.9.72."""
 
     def rules(self, text, default="ALLOW"):
-        settings = firejail.StatedSettings()
-        firejail.read_lines(text.encode(), settings)
-        policy = firejail.policy_of(settings, firejail.GroupReader(groups))
+        policy = firejail.read_firejail_profile(text.encode(), groups)
         self.assertEqual(str(policy.default), default)
         return {(rule.name, str(rule.answer)): rule.line for rule in policy.rules if not rule.conditions}, policy
 

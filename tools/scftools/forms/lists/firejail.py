@@ -8,11 +8,12 @@ includes are read from /etc/firejail.
 """
 from __future__ import annotations
 
+import functools
 import os
 import re
 from collections.abc import Callable, Iterator
 
-from ...base.values import Pattern, dataclass, field, unless_refused
+from ...base.values import Pattern, unless_refused
 from ...model import constants
 from ...model.answers import ALLOW, ENOSYS, Answer
 from ...model.architectures import I386
@@ -26,6 +27,7 @@ from .unit_restrictions import (
 ENOTSUP = Answer("ERRNO", 95)
 SETTINGS = ("seccomp", "seccomp.drop", "seccomp.keep", "seccomp.block-secondary", "seccomp-error-action", "protocol",
             "memory-deny-write-execute", "restrict-namespaces")
+IGNORABLE = (*SETTINGS, "include", "allow-debuggers")
 SIGN = Pattern(rb"(?m)^(?:--)?(?:seccomp(?:\.(?:32\.)?(?:drop|keep)|\.32|\.block-secondary)?|protocol|"
                rb"memory-deny-write-execute|restrict-namespaces)(?:[ =][^\n]*)?$|"
                rb"^include [^\n /]+\.(?:inc|local|profile)$")
@@ -45,18 +47,6 @@ FAMILIES = {"unix": "AF_UNIX", "inet": "AF_INET", "inet6": "AF_INET6",
 BITS = range(32)
 # Actions, the strictest first (seccomp(2)).
 ORDER = ("KILL_THREAD", "ERRNO", "LOG", "ALLOW")
-
-
-@dataclass
-class StatedSettings:
-    """What a profile and the files that it includes state, each with the line of the profile."""
-
-    of: dict[str, tuple[str, int]] = field(default_factory=dict)
-    ignored: set[str] = field(default_factory=set)
-    # how many files were included
-    included: int = 0
-    allows_debuggers: bool = False
-    remarks: list[str] = field(default_factory=list)
 
 
 def _contents(path: str, most: int) -> bytes:
@@ -105,74 +95,75 @@ def group_numbers(group: str) -> list[int]:
     return list(dict.fromkeys(k for code, _, _, k in instructions if code == JUMP | JEQ))
 
 
-def _included(name: str, at: int, settings: StatedSettings) -> bytes:
-    """The contents of a file that a profile includes; nothing of one that isn't there, as firejail goes on then."""
-    settings.included += 1
-    if settings.included > MOST_INCLUDED:
-        raise ListError(f"it includes more than {MOST_INCLUDED} files")
-    name = name.replace("${CFG}/", "").removeprefix(f"{PROFILES}/")
-    if not re.fullmatch(r"[A-Za-z0-9_+-][A-Za-z0-9_.+-]{0,200}", name):
-        raise error_at(at, f"only files of {PROFILES} are included, not '{name}'")
-    try:
-        return _contents(os.path.join(PROFILES, name), sandbox_rules.MOST_LIST_BYTES)
-    except FileNotFoundError:
-        if not name.endswith(".local"):
-            settings.remarks.append(f"line {at}: {PROFILES} has no {name}")
-        return b""
-    except OSError as error:
-        raise error_at(at, f"'{name}' can't be read: {error.strerror}") from error
+class ProfileReader:
+    """What a profile and the files that it includes state, each setting with its line of the profile; and the syscalls
+    of its lists, by the names that firejail knows."""
 
+    def __init__(self, ask: Callable[[str], list[int]] = group_numbers):
+        self.settings: dict[str, tuple[str, int]] = {}
+        self.allows_debuggers = False
+        self.remarks: list[str] = []
+        # what lines are ignored, and how many files were included
+        self._ignored: set[str] = set()
+        self._included = 0
+        # the numbers of a group, which are asked for once, and the names, None if they aren't known
+        self._numbers_of, self.known = functools.lru_cache(None)(ask), table_names()
 
-def read_lines(data: bytes, settings: StatedSettings, outer: int | None = None, depth: int = 0) -> None:
-    """Reads the lines of a file, which the line `outer` of the profile includes."""
-    if depth > DEEPEST_INCLUDE:
-        raise ListError("files include each other too deep")
-    for number, line in sandbox_rules.lines_of(data):
-        at = number if outer is None else outer
-        name, _, value = re.sub(r"\s+", " ", line.strip()).removeprefix("--").replace("=", " ", 1).partition(" ")
-        if not name or name.startswith("#"):
-            continue
-        if name.startswith("?") and any(word in value for word in ("seccomp", "protocol")):
-            raise error_at(at, "whether its condition holds isn't known", UnknownRules)
-        # (a line is ignored whose first words are those behind `ignore`)
-        words = f"{name} {value}".split()[:MOST_IGNORED] if name in (*SETTINGS, "include", "allow-debuggers") else ()
-        if any(" ".join(words[:count]) in settings.ignored for count in range(1, len(words) + 1)):
-            continue
-        if name == "include":
-            read_lines(_included(value, at, settings), settings, at, depth + 1)
-        elif name == "ignore":
-            settings.ignored.add(value)
-        elif name == "allow-debuggers":
-            settings.allows_debuggers = True
-        elif name in SETTINGS:
-            settings.of[name] = value, at
-        elif name.startswith("seccomp.32"):
-            settings.remarks.append(f"line {at}: {name} is for i386, which the profile leaves out")
-        elif name.startswith("seccomp"):
-            raise error_at(at, f"'{name}' isn't a setting of firejail 0.9.72")
+    def _contents_of(self, name: str, at: int) -> bytes:
+        """The contents of a file that a profile includes; nothing of one that isn't there, as firejail goes on then."""
+        self._included += 1
+        if self._included > MOST_INCLUDED:
+            raise ListError(f"it includes more than {MOST_INCLUDED} files")
+        name = name.replace("${CFG}/", "").removeprefix(f"{PROFILES}/")
+        if not re.fullmatch(r"[A-Za-z0-9_+-][A-Za-z0-9_.+-]{0,200}", name):
+            raise error_at(at, f"only files of {PROFILES} are included, not '{name}'")
+        try:
+            return _contents(os.path.join(PROFILES, name), sandbox_rules.MOST_LIST_BYTES)
+        except FileNotFoundError:
+            if not name.endswith(".local"):
+                self.remarks.append(f"line {at}: {PROFILES} has no {name}")
+            return b""
+        except OSError as error:
+            raise error_at(at, f"'{name}' can't be read: {error.strerror}") from error
 
+    def read(self, data: bytes, outer: int | None = None, depth: int = 0) -> None:
+        """Reads the lines of a file, which the line `outer` of the profile includes."""
+        if depth > DEEPEST_INCLUDE:
+            raise ListError("files include each other too deep")
+        for number, line in sandbox_rules.lines_of(data):
+            at = number if outer is None else outer
+            name, _, value = re.sub(r"\s+", " ", line.strip()).removeprefix("--").replace("=", " ", 1).partition(" ")
+            if not name or name.startswith("#"):
+                continue
+            if name.startswith("?") and any(word in value for word in ("seccomp", "protocol")):
+                raise error_at(at, "whether its condition holds isn't known", UnknownRules)
+            # (a line is ignored whose first words are those behind `ignore`)
+            words = f"{name} {value}".split()[:MOST_IGNORED] if name in IGNORABLE else ()
+            if any(" ".join(words[:count]) in self._ignored for count in range(1, len(words) + 1)):
+                continue
+            if name == "include":
+                self.read(self._contents_of(value, at), at, depth + 1)
+            elif name == "ignore":
+                self._ignored.add(value)
+            elif name == "allow-debuggers":
+                self.allows_debuggers = True
+            elif name in SETTINGS:
+                self.settings[name] = value, at
+            elif name.startswith("seccomp.32"):
+                self.remarks.append(f"line {at}: {name} is for i386, which the profile leaves out")
+            elif name.startswith("seccomp"):
+                raise error_at(at, f"'{name}' isn't a setting of firejail 0.9.72")
 
-@dataclass
-class GroupReader:
-    """Reads lists of syscalls by the names that firejail knows, None if unknown; asks for each group's numbers once."""
-
-    ask: Callable[[str], list[int]] = group_numbers
-    known: frozenset[str] | None = field(default_factory=table_names)
-    groups: dict[str, list[int]] = field(default_factory=dict)
-
-    def names_of(self, word: str, at: int) -> list[str]:
+    def _names_of(self, word: str, at: int) -> list[str]:
         """The names of a word: a group's, a number's behind `$`, or its own; none that firejail's table lacks."""
         if not re.fullmatch(r"@[a-z-]{1,64}|\$[0-9]{1,9}|\w{1,64}", word, re.A):
             raise error_at(at, f"'{word}' isn't a syscall")
         if word[0] not in "@$":
             return [word] if self.known is None or word in self.known else []
-        if word[0] == "@" and word not in self.groups:
-            self.groups[word] = self.ask(word)
-        numbers = self.groups[word] if word[0] == "@" else [int(word[1:])]
+        numbers = self._numbers_of(word) if word[0] == "@" else [int(word[1:])]
         return [sandbox_rules.name_of(number, at) for number in numbers]
 
-    def answers_in(self, text: str, at: int, plain: Answer, negated: Answer,
-                   settings: StatedSettings) -> dict[str, Answer]:
+    def _answers_in(self, text: str, at: int, plain: Answer, negated: Answer) -> dict[str, Answer]:
         """The answers of a list: of a name behind `!`, or with an errno, before those of other names."""
         exceptions: dict[str, Answer] = {}
         others: dict[str, Answer] = {}
@@ -181,15 +172,30 @@ class GroupReader:
             if word.startswith("@") and colon:
                 raise error_at(at, f"firejail refuses an error action behind a group, as in '{word}'")
             if action == "log" or word.startswith("!@"):
-                settings.remarks.append(f"line {at}: firejail leaves {word} out")
+                self.remarks.append(f"line {at}: firejail leaves {word} out")
                 continue
             answer = _answer_of(action, at) if colon else negated if word.startswith("!") else plain
-            names, named = exceptions if colon or word.startswith("!") else others, self.names_of(name, at)
+            names, named = exceptions if colon or word.startswith("!") else others, self._names_of(name, at)
             if not named:
-                settings.remarks.append(f"line {at}: firejail leaves {word} out, since its table lacks it")
+                self.remarks.append(f"line {at}: firejail leaves {word} out, since its table lacks it")
             for called in named:
                 names.setdefault(called, answer)
         return {**others, **exceptions}
+
+    def main_list(self, answer: Answer) -> tuple[Answer, dict[str, Answer], int]:
+        """The default of the main filter, its answers by names, and the line that they stand on."""
+        of = self.settings
+        if "seccomp.keep" in of:
+            text, at = of["seccomp.keep"]
+            always = dict.fromkeys(self._names_of(ALWAYS_ALLOWED, at), ALLOW)
+            return answer, {**always, **self._answers_in(text, at, ALLOW, answer)}, at
+        if "seccomp.drop" in of:
+            text, at = of["seccomp.drop"]
+        else:
+            text, at = of.get("seccomp") or of.get("seccomp.block-secondary") or ("", 0)
+            group = DENIED_GROUP if self.allows_debuggers else DENIED_WITHOUT_DEBUGGERS
+            text = f"{group},{text}" if "seccomp" in of else group if at else ""
+        return ALLOW, self._answers_in(text, at, answer, ALLOW), at
 
 
 def _answer_of(text: str, at: int) -> Answer:
@@ -240,23 +246,6 @@ def _memory(answer: Answer) -> dict[str, Restriction]:
             "shmat": with_any(2, [attach], answer), "memfd_create": Restriction(answer)}
 
 
-def _main_list(settings: StatedSettings, reader: GroupReader, answer: Answer) -> tuple[Answer, dict[str, Answer], int]:
-    """The default of the main filter, its answers by names, and the line that they stand on."""
-    of = settings.of
-    if "seccomp.keep" in of:
-        text, at = of["seccomp.keep"]
-        always = dict.fromkeys(reader.names_of(ALWAYS_ALLOWED, at), ALLOW)
-        return answer, {**always, **reader.answers_in(text, at, ALLOW, answer, settings)}, at
-    if "seccomp.drop" in of:
-        text, at = of["seccomp.drop"]
-        return ALLOW, reader.answers_in(text, at, answer, ALLOW, settings), at
-    text, at = of.get("seccomp") or of.get("seccomp.block-secondary") or ("", 0)
-    if not at:
-        return ALLOW, {}, 0
-    group = DENIED_GROUP if settings.allows_debuggers else DENIED_WITHOUT_DEBUGGERS
-    return ALLOW, reader.answers_in(f"{group},{text}" if "seccomp" in of else group, at, answer, ALLOW, settings), at
-
-
 def _rules_of(name: str, main: tuple[Answer, int], restricted: tuple[Restriction, int] | None) -> Iterator[Rule]:
     """The rules of a syscall that one or two filters answer: the stricter answer counts, and of two errnos that of the
     newer filter, which is the one of protocol, else the main one."""
@@ -285,10 +274,15 @@ def _global_action() -> str:
     return action
 
 
-def policy_of(settings: StatedSettings, reader: GroupReader) -> Policy:
-    text, at = settings.of.get("seccomp-error-action") or (_global_action(), 0)
+def read_firejail_profile(data: bytes, ask: Callable[[str], list[int]] = group_numbers) -> Policy:
+    reader = ProfileReader(ask)
+    reader.read(data)
+    of = reader.settings
+    if not of.keys() - {"seccomp-error-action"}:
+        raise ListError("it has no setting of seccomp that counts")
+    text, at = of.get("seccomp-error-action") or (_global_action(), 0)
     answer = _answer_of(text, at)
-    default, answers, line = _main_list(settings, reader, answer)
+    default, answers, line = reader.main_list(answer)
     # what the filters beside the main one deny
     readers: dict[str, Callable[[str, int], dict[str, Restriction]]] = {
         "protocol": lambda text, at: {"socket": _families(text, at)},
@@ -296,11 +290,11 @@ def policy_of(settings: StatedSettings, reader: GroupReader) -> Policy:
         "restrict-namespaces": lambda text, at: _namespaces(text, at, answer),
         # (beside these lists firejail takes the filter that it was built with)
         "seccomp.block-secondary": lambda _, __: _personality(
-            EPERM if {"seccomp.drop", "seccomp.keep"} & settings.of.keys() else answer)}
-    restrictions = {name: (restriction, settings.of[setting][1]) for setting, restrictions_of in readers.items()
-                    if setting in settings.of for name, restriction in restrictions_of(*settings.of[setting]).items()}
-    policy = Policy(default, remarks=list(dict.fromkeys(settings.remarks)),
-                    not_compared=() if "seccomp.block-secondary" in settings.of else (I386,))
+            EPERM if {"seccomp.drop", "seccomp.keep"} & of.keys() else answer)}
+    restrictions = {name: (restriction, of[setting][1]) for setting, restrictions_of in readers.items()
+                    if setting in of for name, restriction in restrictions_of(*of[setting]).items()}
+    policy = Policy(default, remarks=list(dict.fromkeys(reader.remarks)),
+                    not_compared=() if "seccomp.block-secondary" in of else (I386,))
     policy.add_known(rule for name in dict.fromkeys([*answers, *restrictions])
                      for rule in _rules_of(name, (answers.get(name, default), line), restrictions.get(name)))
     if reader.known is None:
@@ -308,11 +302,3 @@ def policy_of(settings: StatedSettings, reader: GroupReader) -> Policy:
     policy.remarks.append("the profile is for x86-64 alone, and kills i386 and x32 syscalls, which firejail answers "
                           "otherwise")
     return policy
-
-
-def read_firejail_profile(data: bytes) -> Policy:
-    settings = StatedSettings()
-    read_lines(data, settings)
-    if not any(name in settings.of for name in SETTINGS if name != "seccomp-error-action"):
-        raise ListError("it has no setting of seccomp that counts")
-    return policy_of(settings, GroupReader())
