@@ -310,13 +310,6 @@ class Needs(Judgement):
             status, out, _ = self.needs(log, "--widen", "--runtime", runtime, profile=profile)
             self.assertEqual((status, "setns" in out), (0, True))
 
-    def test_arguments_that_a_condition_looks_at(self):
-        _, report, out = self.judged("socket(40, 1, 0) = 3\nsocket(0x28, 2, 0) = 3\nsocket(1, 1, 0) = 3\n", 1)
-        self.assertEqual(out.split("\n")[:2], ["41 socket arg 0 0x28 ERRNO 22 entry 3",
-                                               "# 2 times, first in line 1 of the log"])
-        self.assertEqual([(call["disposition"], call["arguments"]) for call in report["calls"]],
-                         [("not allowed", {"0": ["0x28"]}), ("allowed", {"0": ["0x1"]})])
-
     def test_arguments_that_are_not_known(self):
         for log in ("socket(AF_NONE, 1, 0) = 3", "socket(AF_NONE|1, 1, 0) = 3", "socket(40", "socket() = 3",
                     "1 socket(40 <unfinished ...>"):
@@ -342,14 +335,8 @@ class Needs(Judgement):
         self.assertEqual((dispositions, out.split("\n")[0]),
                          ({"bind": "depends"}, "49 bind arg 0 0x5 depends on arg 1"))
         self.assertEqual(self.judged("bind(X, {x}) = 3", 4, halves)[2].split("\n")[0], "49 bind depends on args 0, 1")
-
-    def test_a_negative_number(self):
-        dispositions, report, out = self.judged("wait4(-1, NULL, 0, NULL) = 3", 4)
-        self.assertEqual((dispositions, out.split("\n")[0]), ({"wait4": "depends"}, "61 wait4 depends on arg 0"))
-        self.assertEqual(report["calls"][0]["arguments"], {"0": ["0xffffffff", "0xffffffffffffffff"]})
+        # of the two values that the register may have both are denied
         self.assertEqual(self.judged("wait4(-2, NULL, 0, NULL) = 3", 1)[0], {"wait4": "not allowed"})
-        self.assertEqual(self.judged("wait4(0xffffffff, NULL, 0, NULL) = 3", 4)[0], {"wait4": "depends"})
-        self.assertEqual(self.judged("wait4(0xffffffffffffffff, NULL, 0, NULL) = 3", 1)[0], {"wait4": "not allowed"})
 
     def test_what_is_not_judged(self):
         log = "read(1) = 1\nno_such_call(1) = 1\n[ Process PID=7 runs in odd mode. ]\nopen(1) = 1\nwhat\n"
@@ -369,14 +356,6 @@ class Needs(Judgement):
         self.assertIn("# more such names: 11\n", out)
         for log in ("", "\n\n", "what\n"):
             self.assertIn("# the log has no syscall\n", self.judged(log, 4)[2])
-
-    def test_a_number_of_another_abi(self):
-        """By -n strace prints a call's number: 20 is getpid of i386 (asm/unistd_32.h), and writev of x86-64."""
-        both = {**self.PROFILE, "architectures": ["SCMP_ARCH_X86_64", "SCMP_ARCH_X86"]}
-        self.assertEqual(self.judged("7 [   0] read(1) = 1\n7 [  20] getpid() = 7\n7 [   3] read(1) = 1\n", 1, both)[0],
-                         {"read": "allowed", "i386 read": "allowed", "i386 getpid": "not allowed"})
-        dispositions, report, _ = self.judged("7 [   0] read(1) = 1\n7 [ 999] getpid() = 7\n", 4)
-        self.assertEqual((dispositions, report["not_judged"]["foreign"]), ({"read": "allowed"}, 1))
 
     def test_the_wrong_order(self):
         log, profile = self.file("l", "7  openat(AT_FDCWD, \"x\") = 3\n"), self.file("p.json", profile_of("read"))
@@ -473,15 +452,6 @@ class InArchitectures(Judgement):
                  for call in report["calls"] if call["disposition"] == "not allowed"}
         self.assertEqual((calls["open"]["number"], calls["open"]["architecture"], calls["open"]["names"]),
                          (5, "0x40000003", ["open"]))
-
-    def test_an_argument_that_is_not_known(self):
-        dispositions, report, out = self.judged(f"{self.MODE}socket(AF_NONE, 1) = 3\n", 4)
-        self.assertEqual(dispositions, {"i386 socketcall": "allowed", "i386 socket": "depends"})
-        self.assertEqual(out.split("\n")[0], "i386 359 socket depends on arg 0")
-        call = report["calls"][1]
-        for example, is_40 in ((call["allowed"], False), (call["not_allowed"]["call"], True)):
-            self.assertEqual((example["architecture"], int(example["arguments"][0], 16) % (1 << 32) == 40),
-                             ("0x40000003", is_40))
 
     def test_x32(self):
         """Numbers in a record have 0x40000000 added (asm/unistd.h); x32's execve is 520, and x86-64's 59."""
@@ -699,11 +669,6 @@ class Least(Judgement):
         self.assertEqual((status, out), (4, ""))
         self.assertIn("isn't proved", err)
 
-    def test_what_is_not_in_it(self):
-        made, err = self.least("read(1) = 1\nno_such_call(1) = 1\n", status=4)
-        self.assertEqual(made["syscalls"], [entry("read", "exit_group")])
-        self.assertEqual(err, "needs: not judged, since the table doesn't have it: no_such_call, times: 1\n")
-
 
 class Hostile(Judgement):
     def test_control_characters(self):
@@ -832,22 +797,13 @@ class Real(Judgement):
 
     SCRIPT = "ls / | head -n 1; (sleep 0.05) & wait; kill -USR1 $$; exit 3"
 
-    def traced(self, *words, to_file=True):
-        log = os.path.join(self.folder, "real.log")
-        out = ["-o", log] if to_file else []
-        done = completed(["strace", "-f", *out, *words, "sh", "-c", self.SCRIPT], stdout=subprocess.DEVNULL)
-        if not to_file:
-            self.file("real.log", done.stderr)
-        elif done.returncode == 1 and not os.path.getsize(log):
-            self.skipTest("strace may not trace here")
-        return log
-
     def test_each_form(self):
         profile = self.file("p.json", self.PROFILE)
         for words in ((), ("-t",), ("-ttt",), ("-r",), ("-T", "-i"), ("-y",), ("-X", "raw"), ("-X", "verbose"),
                       ("--quiet=none",)):
-            for to_file in (True, False):
-                log = self.traced(*words, to_file=to_file)
+            traced = ["-f", *words, "sh", "-c", self.SCRIPT]
+            on_error = completed(["strace", *traced], stdout=subprocess.DEVNULL).stderr
+            for log in (self.strace(*traced)[0], self.file("real.log", on_error)):
                 report = json.loads(self.output_of(1, "needs", "--json", log, profile))
                 self.assertEqual({key: count for key, count in report["not_judged"].items() if key != "lines"},
                                  {"names": {}, "foreign": 0, "cut": 0, "more": 0, "lost": 0, "before_load": 0}, words)

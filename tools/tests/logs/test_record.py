@@ -9,10 +9,9 @@ import sys
 import unittest
 
 from support.common import ALLOW, EPERM, LOADER, X86_64, Case, bytes_of, completed, jeq, load, ret, text_of, tool
-from logs import entry, rules, where
+from logs import entry, read_log, rules, where
 from scftools.model.architectures import NATIVE
 from scftools.forms import c_arrays, filter_loads, filters, strace
-from scftools.logs import traces
 
 # Filters that allow all but a syscall that nobody makes.
 FIRST, SECOND, THIRD = (load(4) + jeq(X86_64, 0, 2) + load(0) + jeq(number, 1, 0) + ret(ALLOW) + ret(EPERM)
@@ -226,11 +225,7 @@ class Recorded(Traced):
         """Both halves of an argument are known, whatever bit 31 is: 0x80000000 isn't its sign."""
         script = "libc.syscall(1000, *map(ctypes.c_ulong, (1 << 31, 1 << 63 | 5, 0, 2 ** 64 - 1, 7, 8)))"
         self.assertEqual(self.run_python("record", script, "log")[0], 0)
-        log = traces.Trace(lambda *_: (0, 1, 2, 3), {})
-        log.begin("log")
-        for number, line in enumerate(strace.log_lines(self.path("log")), 1):
-            log.add(number, line)
-        log.end()
+        log = read_log(text_of(self.path("log")), range(4))
         self.assertIn((NATIVE, "syscall_0x3e8", ((1 << 31,), (1 << 63 | 5,), (0,), (2 ** 64 - 1,))), log.calls)
 
     def test_least_profile(self):

@@ -15,7 +15,7 @@ from support.common import CONFINED, Case, bytes_of, completed, profile_of, samp
 from support.containers import Box
 from support.oci import ERRNO
 from forms.test_runtimes import config
-from logs import entry, read_log, rules, where
+from logs import entry, read_log, rules
 from scftools.model import architectures, tables
 from scftools.forms import runtimes
 from scftools.logs import least_profile
@@ -123,8 +123,7 @@ class Lines(unittest.TestCase):
 
     def test_records_of_syscalls(self):
         """audit_log_exit in kernel/auditsc.c of Linux, and what ausearch -i of audit 3.0.9 prints of it."""
-        raw = ('type=SYSCALL msg=audit(1795757700.752:4): arch=c000003e syscall=257 success=yes exit=3 a0=ffffff9c '
-               'a1=7f3 a2=80000 a3=0 items=1 ppid=1 pid=2 auid=0 comm="ls" exe="/bin/ls" key=(null)')
+        raw = SYSCALL.format("c000003e", 257, "ffffff9c")
         shown = (f'type=SYSCALL msg=audit({TIMES}:4) : arch=x86_64 syscall=openat success=yes exit=3 a0=AT_FDCWD '
                  'a1=0x7f3 a2=O_RDONLY|O_CLOEXEC a3=0x0 items=1 ppid=1 pid=2 auid=root comm=ls exe=/bin/ls key=(null)')
         others = f"type=PATH msg=audit({TIMES}:4) : item=0\ntype=EOE msg=audit(1.0:4): \n----\ntime->Fri Nov 27\n"
@@ -272,25 +271,6 @@ class Words(Case):
             log = self.file("log", f"{before}audit(1700000000.1:2): {RECORD.format(0)}\n")
             status, out, _ = self.run_tool("needs", log, self.file("p.json", profile_of("read")))
             self.assertEqual((status, "drops those beyond its rate limit" in out), (0, is_of_kernel))
-
-    def test_records_of_several_architectures(self):
-        """By the headers of each open is 5 and socket 359 on i386, and openat 56 on aarch64."""
-        log = self.file("log", "\n".join(SYSCALL.format(*it) for it in (
-            ("c000003e", 0, 3), ("40000003", 3, 3), ("40000003", 5, 3), ("40000003", 359, "28"), ("40000003", 359, "2"),
-            ("c00000b7", 56, 3), ("80000016", 56, 3))))
-        rules = [entry("read", "openat"), entry("socket", args=[where(0, "NE", 40)])]
-        lines = {"i386": "i386 5 open ERRNO 1 default\n# once in line 3 of the log\n"
-                         "i386 359 socket arg 0 0x28 ERRNO 1 default\n# once in line 4 of the log\n",
-                 "aarch64": "aarch64 56 openat KILL_PROCESS 0 foreign\n# once in line 6 of the log\n",
-                 "note": "# aarch64 syscalls aren't allowed, since the profile doesn't list SCMP_ARCH_AARCH64: "
-                         "engines' filters kill for them\n",
-                 "foreign": "# syscalls not judged, since scf has no table of their architecture: 1\n"}
-        counted = "# syscalls, each with the arguments that conditions test: allowed {}, not allowed {}, depends 0\n"
-        for listed, shown, counts in ((("X86_64", "X86"), lines.values(), (3, 3)),
-                                      (("X86_64", "X86", "AARCH64"), (lines["i386"], lines["foreign"]), (4, 2))):
-            profile = {"defaultAction": ERRNO, "architectures": [f"SCMP_ARCH_{it}" for it in listed], "syscalls": rules}
-            self.assertEqual(self.run_tool("needs", log, self.file("p.json", profile)),
-                             (1, "".join(shown) + counted.format(*counts), ""))
 
     def test_what_runtimes_call(self):
         log, profile = self.file("log", "read(1) = 1\n"), self.file("p.json", profile_of("read", "execve", "write"))

@@ -12,6 +12,7 @@ from support.common import (ALLOW, EPERM, I386, KILL_PROCESS, X86_64, Case, come
                             profile_of, ret, text_of)
 from support.stand_in import StandIn
 import kernel_profiles
+import kernel_programs
 from scftools.model import tables
 from scftools.model.calls import Call
 from scftools.ask import reasons
@@ -19,7 +20,6 @@ from scftools.report import listing
 
 X32, WORD = 0x40000000, (1 << 32) - 1
 NATIVE = load(4) + jeq(X86_64, 1, 0) + ret(KILL_PROCESS) + load(0) + insn(0x35, X32, 0, 1) + ret(KILL_PROCESS)
-CONSTANTS = (0, 1, 2, 41, 0x3FFFFFFF, X32, 0x7FFFFFFF, 0x80000000, WORD, X86_64, I386)
 
 
 def innermost(pid):
@@ -38,21 +38,9 @@ def is_program(pid, name):
         return False
 
 
-def random_filter(random_of, count):
-    """An accepted filter: loads, stores, computations, tests and jumps forwards, and returns at its end."""
-    made = [insn(0x02, 3), insn(0x03, 7)]
-    while len(made) < count - 2:
-        left = count - len(made) - 2
-        near, k = (lambda: random_of.randint(0, min(left, 255))), random_of.choice(CONSTANTS)
-        made.append(random_of.choice((
-            lambda: load(4 * random_of.randrange(16)), lambda: load(4 * random_of.randrange(16)),
-            lambda: insn(random_of.choice((0x00, 0x01, 0x04, 0x0C, 0x14, 0x1C, 0x24, 0x2C, 0x3C, 0x44, 0x4C, 0x54, 0x5C,
-                                           0x6C, 0x7C, 0xA4, 0xAC, 0x84, 0x07, 0x87, 0x80, 0x81)), k),
-            lambda: insn(random_of.choice((0x60, 0x61)), random_of.choice((3, 7))),
-            lambda: insn(random_of.choice((0x02, 0x03)), random_of.randrange(16)),
-            lambda: insn(0x05, random_of.randint(0, min(left, 9))),
-            lambda: insn(random_of.choice((0x15, 0x1D, 0x25, 0x2D, 0x35, 0x3D, 0x45, 0x4D)), k, near(), near())))())
-    return b"".join(made) + insn(0x16, 0) + ret(random_of.choice((ALLOW, EPERM, KILL_PROCESS)))
+def random_filter(random_of):
+    """A filter that the kernel takes."""
+    return kernel_programs.packed(kernel_programs.random_filter(random_of))
 
 
 def random_call(random_of):
@@ -81,9 +69,9 @@ class Path(Case):
 
     def test_random_filters(self):
         random_of, machine, told = random.Random(32), StandIn(), set()
-        for count in (*range(5, 60), 400, 1000):
-            data = random_filter(random_of, count)
-            self.assertEqual(machine.check(data), f"accepted {count}")
+        for _ in range(60):
+            data = random_filter(random_of)
+            self.assertEqual(machine.check(data), f"accepted {len(data) // 8}")
             for _ in range(4):
                 told.add(len(self.holds(data, random_call(random_of))))
         self.assertGreater(len(told), 10)
@@ -124,8 +112,8 @@ class List(Case):
     def test_it_is_the_same_listing(self):
         """The marks are those of the second machine, and what is behind them is the listing without a call."""
         random_of = random.Random(5)
-        for count in (6, 40, 300):
-            data, call = random_filter(random_of, count), random_call(random_of)
+        for _ in range(5):
+            data, call = random_filter(random_of), random_call(random_of)
             plain = self.listed(data)[1].split("\n")[:-1]
             marked = [line for line in self.listed(data, *call.words())[1].split("\n")[:-1] if line[:2] != "# "]
             self.assertEqual([line[2:] for line in marked], plain)
@@ -318,8 +306,8 @@ class Behind(Case):
             "11 to 12, else 16; loaded 0x37, computed with it, went to 12", "13 to 14, else 16; went to 14",
             "15 to 16, else 16; went to 16", "16 LOG"]))
         random_of = random.Random(9)
-        for count in (30, 200, 900):
-            data, call = random_filter(random_of, count), random_call(random_of)
+        for _ in range(20):
+            data, call = random_filter(random_of), random_call(random_of)
             path, expected = listing.path_of(data, call.words()), StandIn().path(data, call)
             before, lines = listing.last_tests(data, path, call, tables.read_table(None))
             tests = [at for at in expected if data[8 * at] & 7 in (5, 6) and data[8 * at] != 5]
