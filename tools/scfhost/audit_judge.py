@@ -16,7 +16,7 @@ from scftools.ask import client, verdicts
 from scftools.ask.verdicts import NO_LESS, NO_MORE, OTHERWISE, SAME, Verdict
 from scftools.forms.stacks import Stack
 from scftools.report import compare_output, surfaces
-from scftools.report.compare import Comparison, left_out
+from scftools.report.compare import Pair
 from scftools.report.pages import ShownSurface
 from . import verify
 from .audit_rows import (AS_CONFIGURED, AUDIT_VERDICTS, NOT_KNOWN, STRICTER, WEAKER, AuditRow, Expectation,
@@ -119,12 +119,12 @@ class StackJudge:
         if asked is None:
             # (the call that shows it would be answered by no profile of a user)
             return replace(judgement, shown=None, lines=())
-        names = left_out(comparison.profile, comparison.tables).architectures
+        names = comparison.left_out[-1].architectures
         is_i386 = list(comparison.tables.of) == [architectures.I386]
         return replace(judgement, not_compared=(*names, *not_compared_of(asked.profile)),
                        architecture="i386" if is_i386 else None)
 
-    def _of_verdict(self, comparison: Comparison, verdict: Verdict) -> StackJudgement:
+    def _of_verdict(self, comparison: Pair, verdict: Verdict) -> StackJudgement:
         """The verdict on what is judged: if some syscalls differ, whether any is more permissive, or any stricter."""
         if verdict.holds:
             return StackJudgement(AS_CONFIGURED)
@@ -140,7 +140,7 @@ class StackJudge:
         return self._shown(OTHERWISE, verdict, comparison) if no_less.holds else \
             self._shown(STRICTER, no_less, comparison)
 
-    def _shown(self, word: str, shown: Verdict, comparison: Comparison) -> StackJudgement:
+    def _shown(self, word: str, shown: Verdict, comparison: Pair) -> StackJudgement:
         has_lines = self.options.has_surfaces and shown.call is not None
         lines = compare_output.difference_lines(comparison, shown) if has_lines else ()
         return StackJudgement(word, shown=shown, lines=tuple(islice(lines, MOST_LINES)))

@@ -16,7 +16,6 @@ from scftools.ask.verdicts import SAME
 from scftools.forms.filters import Filter
 from scftools.forms.lists import lxc, sandbox_rules, snapd
 from scftools.report import compare_output
-from scftools.report.compare import Comparison
 from . import configurations, container_files, owned_files, sandbox_programs, unit_profiles, units, verify
 from .audit_rows import CONTAINER, OTHER_PROGRAM, UNIT, AuditRow, Expectation
 from .container_files import SLICE_OF_A_USER, ContainerDescription, Membership
@@ -50,8 +49,7 @@ class Options:
         """Raises a ToolError if scf refuses a profile, the table or the limit. Two entries that conflict, or two
         conditions on one argument, are left to the runtimes, which accept them."""
         for name, profile in filter(None, (self.expected, self.baseline, ("", verify.ALLOWS_ALL))):
-            comparison = Comparison([Filter("", IS_ALLOWED.filter)], profile, self.table,
-                                    is_native=self.scope is not None)
+            comparison = self.request(profile).comparison([Filter("", IS_ALLOWED.filter)])
             fault = comparison.run(comparison.scope)[1].fault
             if fault is not None and fault.kind not in ("Conflict", "RepeatedIndex"):
                 when, _, *where = *compare_output.fault_sentences(comparison, fault), "", ""

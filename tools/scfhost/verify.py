@@ -14,7 +14,7 @@ from scftools.forms.profile_inputs import ProfileInput
 from scftools.forms.stacks import Inspection, Stack
 from scftools.report import compare, compare_output
 from scftools.report.blocks import OF_ALL, blocks_of, of_threads
-from scftools.report.compare import Comparison, StackComparison
+from scftools.report.compare import Pair
 from .configurations import ContainerError
 
 # What is compared with if nothing is configured: every syscall is allowed.
@@ -30,7 +30,7 @@ class Block:
 
     stack: Stack
     status: int
-    comparison: Comparison | StackComparison | None = None
+    comparison: Pair | None = None
     report: verdicts.Report | None = None
     # by architecture the least number that runc answers with ENOSYS, if it does so here
     stub: dict[str, int] = field(default_factory=dict)
@@ -95,16 +95,13 @@ class Request:
         unit = [each.comparison(stack.named) for each in self.parts]
         comparison, status, report = compare.compare_unit(unit, self.scope)
         has_stub = not self.saved and report.verdict is not None and report.verdict.word == verdicts.SAME
-        return Block(stack, status, comparison, report, comparison.stub if has_stub else {},
+        return Block(stack, status, comparison, report, comparison.right.stub if has_stub else {},
                      self.scope or comparison.scope)
 
     def comparison(self, stack: Sequence[Filter], relation: str | None = None) -> Any:
         """The comparison of filters with the profile, or with those that were saved."""
-        if self.saved:
-            return StackComparison(stack, self.saved, self.table, relation or self.relation)
-        origins, stub = (None, {}) if self.applied is None else (self.applied.origins, self.applied.stub)
-        return Comparison(stack, self.profile, self.table, relation or self.relation, origins, stub,
-                          is_native=self.scope == verdicts.NATIVE_SCOPE, elsewhere=self.elsewhere)
+        return compare.pair_of(stack, self.saved or self.applied or ProfileInput(self.profile), self.table,
+                               relation or self.relation, self.scope == verdicts.NATIVE_SCOPE, elsewhere=self.elsewhere)
 
     def notes(self, block: Block) -> Iterator[str]:
         """What is added to scf's lines."""

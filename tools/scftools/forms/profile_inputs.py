@@ -65,9 +65,9 @@ class ProfileInput:
         reading = profiles.reading_of(self.data)
         return [self, *(replace(self, data=profiles.read_as(other, reading)) for other in others)]
 
-    def judged(self, table: tables.Table, is_native: bool) -> tables.Tables:
-        """The tables that it is judged by, and how it is read."""
-        return replace(tables.tables_of_profile(self.data, table, is_native), stub=self.stub)
+    def judged(self, table: tables.Table, is_native: bool, architecture: str = NATIVE) -> tables.Tables:
+        """The tables that it is judged by, with this one of an OCI architecture, and how it is read."""
+        return replace(tables.tables_of_profile(self.data, table, is_native, architecture), stub=self.stub)
 
     def stub_notes(self, stub: dict[str, int]) -> Iterator[str]:
         """The notes on a filter that begins with a stub at these numbers."""

@@ -127,11 +127,12 @@ def _of_calls(pair: ProfileComparison) -> list[Change]:
 
 def _of_unnamed(pair: ProfileComparison) -> Change | None:
     """Whether the defaults differ, which answer all numbers that a table doesn't name: by the least of them."""
-    for architecture, table in pair.both:
-        stubs = [side.stub[architecture.oci] - architecture.first
-                 for side in pair.sides if architecture.oci in side.stub]
-        before_stubs = min(stubs, default=FIRST_X32)
-        number = next((first for first, _ in questions.gaps(table, architecture) if first < before_stubs), None)
+    left, right = (judged.of for judged in pair.judged)
+    for architecture in (JUDGED[name] for name in left if name in right):
+        before_stubs = min((side.stub[architecture.oci] - architecture.first
+                            for side in pair.sides if architecture.oci in side.stub), default=FIRST_X32)
+        firsts = (first for first, _ in questions.gaps(left[architecture.oci], architecture))
+        number = next((first for first in firsts if first < before_stubs), None)
         call = None if number is None else Call(architecture.first + number, architecture.number)
         if call is None or pair.differences.is_finished and not pair.differences.of_number(call):
             continue

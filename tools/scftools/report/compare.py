@@ -7,8 +7,8 @@ import itertools
 from collections.abc import Callable, Sequence
 
 from ..base import program
-from ..base.values import Any, Pattern, dataclass, field, replace
-from ..model import bundles, profiles, tables
+from ..base.values import Any, Pattern, dataclass, replace
+from ..model import bundles, profiles
 from ..model.architectures import JUDGED, NATIVE, Architecture
 from ..model.bpf import looks_at_pointer
 from ..model.calls import SKIPPED, Call
@@ -30,30 +30,54 @@ TURNING = Pattern(r"(?m)(^| )(no more|no less|more|less)(?= args|$)")
 TURNED = {NO_MORE: NO_LESS, NO_LESS: NO_MORE, MORE: LESS, LESS: MORE}
 
 
-@functools.lru_cache(8)
-def _listed(words: tuple[str, ...], bundle: bytes, beside: str, _limit: str | None) -> Lookup:
-    """The differences of the sides in a bundle, within a limit. Raises Refusal."""
-    return Lookup(regions.asked(["--differences", *words], bundle), beside)
-
-
-# Filters, oldest first, or a profile.
-Side = "Sequence[Filter] | ProfileInput"
-
-
+@dataclass(frozen=True)
 class Pair:
-    """Two sides whose answers are compared, as they are shown. The relation and all verdicts are scf's, of the left
-    side to the right one: that one judges, or in a turned pair the left one; in a diff the old one."""
+    """Two sides whose answers are compared, as they are shown, and x86-64's table. The relation and all verdicts are
+    scf's, of the left side to the right one: that one judges, or in a turned pair the left one; in a diff the old one.
+    """
 
-    relation: str
-    # the tables of the architectures whose syscalls are compared by name, and those sides that are filters for scf
-    tables: Tables
-    stacks: Sequence[Sequence[bytes]]
-    sides: tuple[Side, Side]
-    # the scope that is compared by default
-    scope: str
-    is_turned = is_diff = False
-    # scf's words for both sides, and what it calls the second one
-    kinds, beside = ("filter", "profile"), "profile"
+    left: Sequence[Filter] | ProfileInput
+    right: Any
+    table: Table
+    relation: str = SAME
+    # whether profiles are judged for x86-64 alone, whatever they name
+    is_native: bool = False
+    is_turned: bool = False
+    is_diff: bool = False
+    # the OCI names of ABIs that aren't asked about, since another profile has them
+    elsewhere: Sequence[str] = ()
+    # that of the table
+    architecture: str = NATIVE
+
+    # scf's words for both sides, and what it calls the second one; and of filters beside a profile that profile, and
+    # what they let through of other ABIs
+    kinds, beside, profile, accesses = ("filter", "profile"), "profile", b"", ()
+
+    @property
+    def sides(self) -> tuple[Any, Any]:
+        return self.left, self.right
+
+    @functools.cached_property
+    def judged(self) -> list[Tables]:
+        """The tables by which each side is judged, filters by those of a profile beside them."""
+        found = [side.judged(self.table, self.is_native, self.architecture)
+                 for side in self.sides if isinstance(side, ProfileInput)] or [Tables({NATIVE: self.table})]
+        return [found[0], found[-1]]
+
+    @property
+    def tables(self) -> Tables:
+        """The tables of the architectures whose syscalls scf compares."""
+        return self.judged[1]
+
+    @property
+    def stacks(self) -> list[list[bytes]]:
+        """Those sides that are filters for scf."""
+        return [[each.data for each in side] for side in self.sides if not isinstance(side, ProfileInput)]
+
+    @property
+    def scope(self) -> str:
+        """The scope that is compared by default."""
+        return NATIVE_SCOPE if self.tables.is_native else LISTED
 
     @property
     def names(self) -> tuple[str, str]:
@@ -71,11 +95,9 @@ class Pair:
 
     def title(self, at: int) -> str:
         """What a side is called in sentences."""
-        side, are_profiles = self.sides[at], [isinstance(each, ProfileInput) for each in self.sides]
-        is_other = at == self.judging and are_profiles[0] == are_profiles[1]
-        kind = self.names[at] if self.is_diff else "other" if is_other else ""
-        noun = "profile" if are_profiles[at] else "filter" + "s" * (len(side) > 1)
-        return " ".join(filter(None, ["the", kind, noun]))
+        side, is_other = self.sides[at], at == self.judging and self.beside == bundles.BESIDE
+        noun = "profile" if isinstance(side, ProfileInput) else "filter" + "s" * (len(side) > 1)
+        return " ".join(filter(None, ["the", self.names[at] if self.is_diff else "other" * is_other, noun]))
 
     def word(self, word: str) -> str:
         """A relation or the word of a verdict, as it is of the judged side to the other one; or scf's word for that."""
@@ -83,15 +105,14 @@ class Pair:
 
     def texts(self, lines: Sequence[str]) -> list[str]:
         """Lines of scf, or of syscalls, as they are printed."""
-        if self.names == ("filter", self.beside) and not self.is_turned:
-            return list(lines)
         (first, answer), (second, other) = self.in_order(*zip(self.names, (r"\1", r"\3")))
         text = ANSWERS.sub(rf"{first} {answer}\2{second} {other}", "\n".join(lines))
         return TURNING.sub(lambda match: match[1] + self.word(match[2]), text).split("\n")
 
     def fault(self, fault: Fault) -> Fault:
         """A fault of scf, as it is printed."""
-        return fault
+        line = fault.line.replace(self.beside, "profile", 1) if isinstance(self.right, ProfileInput) else fault.line
+        return Fault.read(line) or fault
 
     def printed(self, report: Report) -> Report:
         """A report with its lines as they are printed."""
@@ -109,9 +130,15 @@ class Pair:
         self.check(report)
         return status, report
 
-    def run_by_stub(self, scope: str | None = None) -> tuple[Any, int, Report]:
-        """The comparison, which a runtime's stub may change, and scf's status and report over a scope."""
-        return (self, *self.run(scope))
+    def run_by_stub(self, scope: str | None = None) -> tuple[Pair, int, Report]:
+        """The comparison, and scf's status and report over a scope: of filters without runc's stub if that differs and
+        they answer its first number nowhere as it does."""
+        status, report = self.run(scope)
+        stub = self.right.stub if self.profile else {}
+        if stub and report.verdict is not None and not report.verdict.holds and \
+                not any(self.of_numbers(name, first, first).holds for name, first in stub.items()):
+            return replace(self, right=replace(self.right, stub={})).run_by_stub(scope)
+        return self, status, report
 
     @functools.cached_property
     def named_calls(self) -> list[NamedCall] | None:
@@ -123,30 +150,25 @@ class Pair:
 
     @property
     def named(self) -> dict[str, Table]:
-        """The tables of the architectures whose syscalls are compared by name, by their OCI names."""
-        return self.tables.of
+        """The tables of the architectures whose syscalls are compared by name, by OCI names in scf's order: of two
+        profiles those that one of them is judged for, since the other one kills for their syscalls."""
+        either = {name: table for side in self.judged for name, table in side.of.items()}
+        return {name: either[name] for name in JUDGED if name in either}
 
     def words(self, judged: Tables) -> list[str]:
         """The options by which scf takes both sides with these tables."""
-        return judged.words
+        return judged.words if isinstance(self.right, ProfileInput) else ["--beside"]
 
     def bundle(self, judged: Tables, is_by_call: bool = False) -> bytes:
         """Both sides and these tables."""
-        raise NotImplementedError
+        return bundles.profile_bundle(self.right.data, judged, self.stacks[0]) if self.stacks else \
+            bundles.bundle([("profile", self.left.data), (bundles.BESIDE_PROFILE, self.right.data), *judged.parts])
 
     @functools.cached_property
-    def _question(self) -> tuple[tuple[str, ...], bytes]:
-        """The options and the bundle by which scf lists all that both sides may answer differently. Raises Refusal."""
-        return tuple(self.words(self.tables)), self.bundle(self.tables)
-
-    @property
     def found(self) -> Lookup:
-        """All that both sides may answer differently, which is asked for once. Raises Refusal."""
-        listed = _listed(*self._question, self.beside, client.limits.get("limit"))
-        # (what takes all steps isn't known later either)
-        if not listed.is_finished and not client.has_time(has_all=True):
-            _listed.cache_clear()
-        return listed
+        """All that both sides may answer differently. Raises Refusal."""
+        words = ["--differences", *self.words(self.tables)]
+        return Lookup(regions.asked(words, self.bundle(self.tables)), self.beside)
 
     @property
     def differences(self) -> Lookup:
@@ -196,7 +218,8 @@ class Pair:
     def known_verdict(self, scope: str, relation: str) -> Verdict | None:
         """The verdict over a scope, without an example if it is call by call; None if the differences don't tell."""
         if scope != CALLS:
-            return self.differences.verdict(relation, EVERY_RECORD if scope == ALL else map(span_of, self.tables.of))
+            is_whole = scope == ALL or isinstance(self.left, ProfileInput)
+            return self.differences.verdict(relation, EVERY_RECORD if is_whole else map(span_of, self.tables.of))
         calls = [self.differences.calls(name, table, relation) for name, table in self.named.items()]
         return None if None in calls else Verdict(FAILING_WORDS[relation] if any(calls) else relation)
 
@@ -206,8 +229,11 @@ class Pair:
 
     def calls_of(self, name: str, relation: str | None = None) -> list[NamedCall]:
         """The syscalls in an architecture's table that aren't proved, by scf's lines. Raises Refusal."""
-        if not self.tables.of[name].numbers():
-            return []
+        table = self.named[name]
+        if name not in self.tables.of or not table.numbers():
+            # (scf compares by the right side's tables)
+            lines = (f"{number} {','.join(table.names_of(number))} {UNFINISHED}" for number in sorted(table.numbers()))
+            return [*verdicts.report("\n".join([UNFINISHED, *lines]), 0, JUDGED[name]).calls]
         return [*checked(*self.asked(SCOPES[CALLS], relation or self.relation, name), True).calls]
 
     def of_calls(self, relation: str | None = None) -> list[NamedCall]:
@@ -221,6 +247,36 @@ class Pair:
             calls += known
         return calls
 
+    @functools.cached_property
+    def left_out(self) -> list[Report]:
+        """What scf leaves out of each profile: names that no table has, and architectures without one."""
+        return [Report((), skipped=tuple(name for name in profiles.names_of(side.data) if not judged.has(name)),
+                       architectures=tuple(oci for oci in profiles.architectures_of(side.data) if oci not in judged.of))
+                for side, judged in zip(self.sides, self.judged) if isinstance(side, ProfileInput)]
+
+    @functools.cached_property
+    def _lookup(self) -> Callable[[int], regions.Lookup]:
+        """The regions of a profile, where the differences don't tell."""
+        return functools.lru_cache(None)(lambda at: regions.Lookup(
+            regions.regions_of_profile(self.sides[at].data, self.judged[at])))
+
+    def reason_of(self, at: int, call: Call, region: Region | None = None) -> reasons.Reason:
+        """A profile's answer to a syscall and its reason: by the differences, of which one may be known to have it, by
+        its own regions, or else by `ask`."""
+        region = region or self.differences.of(call)
+        if region is not None and (at == 1 or not self.stacks):
+            return reasons.region_reason((region.beside if at else region).line)
+        region = self._lookup(at).of(call)
+        return reasons.region_reason(region.line) if region is not None else \
+            reasons.profile_reason(self.sides[at].data, self.judged[at], call.words())
+
+    def asked_accesses(self, scope: str, relation: str | None = None) -> list[AbiAccess]:
+        """The access of those other ABIs that a relation over a scope asks about, with the verdict on it: whether a
+        filter is stricter on them isn't asked, and nor are they where x86-64 alone is judged, or each record."""
+        relation = relation or self.relation
+        return [] if self.is_native or scope == ALL or relation == NO_LESS else [
+            replace(access, verdict=access.verdict.of_relation(relation)) for access in self.accesses]
+
     def of_numbers(self, name: str, first: int, last: int) -> Verdict:
         """The verdict on the syscalls of an architecture with numbers of records from one to another, both included."""
         words, spans = [f"--nr-from={first}", f"--nr-to={last}"], [span_of(name, first, last)]
@@ -228,56 +284,12 @@ class Pair:
             Verdict(UNFINISHED)
 
 
-@dataclass
 class Comparison(Pair):
-    """Filters, oldest first, a profile and x86-64's table; a relation; of a resolved profile the index of each entry in
-    the user's, and for each architecture the least number of a record that runc answers with ENOSYS; whether x86-64
-    alone is judged, whatever the profile names; the OCI name of the table's architecture, if that isn't x86-64; and the
-    names of other ABIs that aren't asked about, since another profile has them."""
-
-    filters: Sequence[Filter]
-    profile: bytes
-    table: Table
-    relation: str = SAME
-    origins: Sequence[profiles.Origin] | None = None
-    stub: dict[str, int] = field(default_factory=dict)
-    is_native: bool = False
-    architecture: str = NATIVE
-    elsewhere: Sequence[str] = ()
-    is_turned: bool = False
-    is_diff: bool = False
+    """Filters, oldest first, and a profile."""
 
     @property
-    def sides(self) -> tuple[Side, Side]:  # type: ignore
-        return self.filters, ProfileInput(self.profile, self.origins)
-
-    @functools.cached_property
-    def tables(self) -> Tables:
-        """The tables of the architectures that are judged, and how the profile is read."""
-        judged = tables.tables_of_profile(self.profile, self.table, self.is_native, self.architecture)
-        return replace(judged, stub=self.stub)
-
-    @property
-    def scope(self) -> str:
-        """The scope of all architectures that are judged."""
-        return NATIVE_SCOPE if self.tables.is_native else LISTED
-
-    @property
-    def stacks(self) -> list[list[bytes]]:
-        return [[each.data for each in self.filters]]
-
-    def bundle(self, judged: Tables, is_by_call: bool = False) -> bytes:
-        return bundles.profile_bundle(self.profile, judged, self.stacks[0])
-
-    def run_by_stub(self, scope: str | None = None) -> tuple[Comparison, int, Report]:
-        """The same without runc's stub if that differs and the filters answer its first number nowhere as it does."""
-        comparison, (status, report) = self, self.run_unchecked(scope)
-        if self.stub and report.verdict is not None and not report.verdict.holds and \
-                not any(self.of_numbers(name, first, first).holds for name, first in self.stub.items()):
-            comparison = replace(self, stub={})
-            status, report = comparison.run_unchecked(scope)
-        comparison.check(report)
-        return comparison, status, report
+    def profile(self) -> bytes:  # type: ignore
+        return self.right.data
 
     def run_unchecked(self, scope: str | None = None, relation: str | None = None) -> tuple[int, Report]:
         """Over all records the verdict is `undetermined` if the syscall that decides is of an architecture that the
@@ -286,24 +298,21 @@ class Comparison(Pair):
         # (other ABIs are told by the differences alone, which also tell whether all holds)
         known = self.known_verdict(scope, relation) if scope != ALL and self.abis and "splits" not in client.limits \
             else None
-        if known is not None and known.holds:
-            status, report = known.status, Report.of(known)
-        else:
-            status, report = super().run_unchecked(scope, relation)
+        status, report = (known.status, Report.of(known)) if known is not None and known.holds else \
+            super().run_unchecked(scope, relation)
         if report.verdict is None:
             return status, report
-        beside = left_out(self.profile, self.tables)
+        beside = self.left_out[-1]
         if scope == ALL:
             report = self._of_all(report, relation, beside.architectures)
         elif scope == CALLS or not report.verdict.fails:
             # (where one fails other ABIs decide nothing any more, and may take long)
-            others = self.of_other_abis(scope, relation)
-            worst = min((report.verdict, *others), key=lambda verdict: verdict.order)
+            others = self.asked_accesses(scope, relation)
+            worst = min((report.verdict, *(access.verdict for access in others)), key=lambda verdict: verdict.order)
             if scope == CALLS:
                 # with a line for each ABI that isn't denied
-                report = Report.by_call(worst, [*report.calls, *(
-                    NamedCall.of(verdict, access.abi, access.names)
-                    for access, verdict in zip(self.accesses, others) if verdict.call is not None)])
+                report = Report.by_call(worst, [*report.calls, *(NamedCall.of(
+                    access.verdict, access.abi, access.names) for access in others if access.verdict.call is not None)])
             elif worst is not report.verdict:
                 report = Report.of(worst)
         return report.verdict.status, replace(report, skipped=beside.skipped, architectures=beside.architectures)
@@ -325,16 +334,10 @@ class Comparison(Pair):
     def known_verdict(self, scope: str, relation: str) -> Verdict | None:
         known = super().known_verdict(scope, relation)
         abi = known and known.call and known.call.abi
-        if known is None or scope == ALL and abi in left_out(self.profile, self.tables).architectures:
+        if known is None or scope == ALL and abi in self.left_out[-1].architectures:
             return None
-        others = [] if known.fails else self.of_other_abis(scope, relation)
-        return min((known, *others), key=lambda verdict: verdict.order)
-
-    def reason_of(self, at: int, call: Call) -> reasons.Reason:
-        """The profile's reason for its answer to a syscall."""
-        region = self.differences.of(call)
-        return reasons.profile_reason(self.profile, self.tables, call.words()) if region is None else \
-            reasons.region_reason(region.beside.line)
+        others = [] if known.fails else self.asked_accesses(scope, relation)
+        return min((known, *(access.verdict for access in others)), key=lambda verdict: verdict.order)
 
     @functools.cached_property
     def abis(self) -> list[Architecture]:
@@ -355,54 +358,11 @@ class Comparison(Pair):
         except Refusal:
             return [AbiAccess(abi, Verdict(UNFINISHED)) for abi in self.abis]
 
-    def asked_accesses(self, scope: str, relation: str | None = None) -> list[AbiAccess]:
-        """Those that a relation over a scope asks about: whether a filter is stricter on them isn't asked, and nor are
-        they where x86-64 alone is judged, or each record."""
-        is_asked = not self.is_native and scope != ALL and (relation or self.relation) != NO_LESS
-        return self.accesses if is_asked else []
 
-    def of_other_abis(self, scope: str, relation: str) -> list[Verdict]:
-        """The verdicts on them: all of an ABI's syscalls are denied, or one is shown that isn't."""
-        return [access.verdict.of_relation(relation) for access in self.asked_accesses(scope, relation)]
-
-
-def left_out(profile: bytes, judged: Tables) -> Report:
-    """A report on what scf leaves out of a profile: names that no table has, and architectures without one."""
-    return Report((), skipped=tuple(name for name in profiles.names_of(profile) if not judged.numbers_of(name)),
-                  architectures=tuple(name for name in profiles.architectures_of(profile) if name not in judged.of))
-
-
-@dataclass(frozen=True)
 class StackComparison(Pair):
-    """Two stacks of filters, each oldest first, a table, and a relation."""
-
-    left: Sequence[Filter]
-    right: Sequence[Filter]
-    table: Table
-    relation: str = SAME
-    is_diff: bool = False
+    """Two stacks of filters, each oldest first."""
 
     kinds, beside, scope = ("filter", bundles.BESIDE), bundles.BESIDE, ALL
-
-    @property
-    def sides(self) -> tuple[Side, Side]:  # type: ignore
-        return self.left, self.right
-
-    @property
-    def tables(self) -> Tables:
-        return Tables({NATIVE: self.table})
-
-    @property
-    def stacks(self) -> list[list[bytes]]:
-        return [[bpf_filter.data for bpf_filter in side] for side in (self.left, self.right)]
-
-    @property
-    def found(self) -> Lookup:
-        left, right = self.stacks
-        return Lookup([], self.beside) if left == right else super().found
-
-    def words(self, judged: Tables) -> list[str]:
-        return ["--beside"]
 
     def bundle(self, judged: Tables, is_by_call: bool = False) -> bytes:
         # (two stacks have no table but with --calls)
@@ -422,37 +382,15 @@ class StackComparison(Pair):
         return (done.status, report) if report.verdict is None else (program.SUCCESS, Report.of(Verdict(relation)))
 
 
-@dataclass(frozen=True)
 class ProfileComparison(Pair):
-    """Two profiles, of which scf has the left one as its filter where they aren't judged alike; x86-64's table, a
-    relation, and whether x86-64 alone is judged. All records are compared: both kill for what neither names."""
-
-    left: ProfileInput
-    right: ProfileInput
-    table: Table
-    relation: str = SAME
-    is_native: bool = False
-    is_turned: bool = False
-    is_diff: bool = False
+    """Two profiles, of which scf has the left one as its filter where they aren't judged alike. All records are
+    compared: both kill for what neither names."""
 
     kinds, beside = ("profile", bundles.BESIDE), bundles.BESIDE
 
     @property
-    def sides(self) -> tuple[ProfileInput, ProfileInput]:  # type: ignore
-        return self.left, self.right
-
-    @functools.cached_property
-    def judged(self) -> list[Tables]:
-        """The tables by which each is judged."""
-        return [side.judged(self.table, self.is_native) for side in self.sides]
-
-    @property
     def scope(self) -> str:
         return NATIVE_SCOPE if self.is_native else LISTED
-
-    @property
-    def tables(self) -> Tables:
-        return self.judged[1]
 
     @functools.cached_property
     def stacks(self) -> list[list[bytes]]:
@@ -462,48 +400,10 @@ class ProfileComparison(Pair):
         is_alike = (left.words, left.parts) == (right.words, right.parts)
         return [] if is_alike else [[client.compile_profile(self.left.data, left)]]
 
-    def bundle(self, judged: Tables, is_by_call: bool = False) -> bytes:
-        return bundles.profile_bundle(self.right.data, judged, self.stacks[0]) if self.stacks else \
-            bundles.bundle([("profile", self.left.data), (bundles.BESIDE_PROFILE, self.right.data), *judged.parts])
-
-    @property
-    def named(self) -> dict[str, Table]:
-        """The tables of the architectures that one of them is judged for: the other one kills for their syscalls."""
-        either = {name: table for side in self.judged for name, table in side.of.items()}
-        return {name: either[name] for name in JUDGED if name in either}
-
-    @property
-    def both(self) -> list[tuple[Architecture, Table]]:
-        """The architectures that both are judged for, with their tables."""
-        left, right = (side.of for side in self.judged)
-        return [(JUDGED[name], table) for name, table in left.items() if name in right]
-
     @property
     def alone(self) -> list[list[str]]:
         """The OCI names of the architectures that only one side is judged for."""
-        both = {architecture.oci for architecture, _ in self.both}
-        return [[oci for oci in side.of if oci not in both] for side in self.judged]
-
-    @functools.cached_property
-    def left_out(self) -> list[Report]:
-        """What scf leaves out of each."""
-        return [left_out(side.data, judged) for side, judged in zip(self.sides, self.judged)]
-
-    def fault(self, fault: Fault) -> Fault:
-        return Fault.read(fault.line.replace(self.beside, "profile", 1)) or fault
-
-    def known_verdict(self, scope: str, relation: str) -> Verdict | None:
-        return self.differences.verdict(relation, EVERY_RECORD) if scope != CALLS else \
-            super().known_verdict(scope, relation)
-
-    def calls_of(self, name: str, relation: str | None = None) -> list[NamedCall]:
-        if name in self.tables.of:
-            return super().calls_of(name, relation)
-        # scf compares by the right profile's tables
-        architecture, table = JUDGED[name], self.named[name]
-        return [NamedCall(architecture.marked(f"{number} {','.join(table.names_of(number))} {UNFINISHED}"), number,
-                          tuple(table.names_of(number)), Verdict(UNFINISHED), architecture)
-                for number in sorted(table.numbers())]
+        return [[oci for oci in side.of if oci not in other.of] for side, other in (self.judged, self.judged[::-1])]
 
     def run(self, scope: str | None = None, relation: str | None = None) -> tuple[int, Report]:
         """The exit status and the report, for this relation or its own. A fault of the right side is `beside`'s."""
@@ -528,22 +428,6 @@ class ProfileComparison(Pair):
                            for names in zip(*((side.skipped, side.architectures) for side in self.left_out)))
         return report.verdict.status, replace(report, skipped=(*skipped,), architectures=(*others,))
 
-    @functools.cached_property
-    def _lookup(self) -> Callable[[int], regions.Lookup]:
-        """The regions of a side, where the differences don't tell."""
-        return functools.lru_cache(None)(lambda at: regions.Lookup(
-            regions.regions_of_profile(self.sides[at].data, self.judged[at])))
-
-    def reason_of(self, at: int, call: Call, region: Region | None = None) -> reasons.Reason:
-        """A profile's answer to a syscall and its reason: by the differences, of which one may be known to have it, by
-        its own regions, or else by `ask`."""
-        region = region or self.differences.of(call)
-        if region is not None and (at == 1 or not self.stacks):
-            return reasons.region_reason((region.beside if at else region).line)
-        region = self._lookup(at).of(call)
-        return reasons.region_reason(region.line) if region is not None else \
-            reasons.profile_reason(self.sides[at].data, self.judged[at], call.words())
-
 
 def compare_unit(comparisons: Sequence[Pair], scope: str | None) -> tuple[Any, int, Report]:
     """Of the comparisons of a side with each profile of a unit the one that speaks for all, with scf's status and
@@ -552,18 +436,12 @@ def compare_unit(comparisons: Sequence[Pair], scope: str | None) -> tuple[Any, i
     return min(results, key=lambda result: () if result[2].verdict is None else result[2].verdict.order)
 
 
-def pair_of(judged: Side, by: Side, table: Table, relation: str, is_native: bool = False, is_diff: bool = False,
+def pair_of(judged: Any, by: Any, table: Table, relation: str, is_native: bool = False, is_diff: bool = False,
             elsewhere: Sequence[str] = ()) -> Pair:
     """The comparison of a side with the one by which it is judged."""
-    turned = TURNED.get(relation, relation)
-    if isinstance(by, ProfileInput) and isinstance(judged, ProfileInput):
-        # (what changes is told by the old profile's regions)
-        return ProfileComparison(by, judged, table, turned, is_native, True, True) if is_diff else \
-            ProfileComparison(judged, by, table, relation, is_native)
-    if isinstance(by, ProfileInput):
-        return Comparison(judged, by.data, table, relation, by.origins, by.stub,  # type: ignore
-                          is_native=is_native, elsewhere=elsewhere, is_diff=is_diff)
-    if isinstance(judged, ProfileInput):
-        return Comparison(by, judged.data, table, turned, judged.origins, judged.stub, is_native=is_native,
-                          is_turned=True, is_diff=is_diff)
-    return StackComparison(judged, by, table, relation, is_diff)
+    are_profiles = isinstance(judged, ProfileInput), isinstance(by, ProfileInput)
+    # (filters are at the left of a profile; and what changes between two profiles is told by the old one's regions)
+    is_turned = all(are_profiles) and is_diff or are_profiles == (True, False)
+    kind = ProfileComparison if all(are_profiles) else Comparison if any(are_profiles) else StackComparison
+    sides, its_relation = ((by, judged), TURNED.get(relation, relation)) if is_turned else ((judged, by), relation)
+    return kind(*sides, table, its_relation, is_native, is_turned, is_diff, elsewhere)

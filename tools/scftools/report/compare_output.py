@@ -14,14 +14,13 @@ from ..model.architectures import JUDGED
 from ..model.calls import ARCHITECTURE, NUMBER, Call
 from ..ask import explanation, reasons
 from ..ask.explanation import join_names
-from ..ask.regions import Numbers
 from ..ask.verdicts import (ALL, CALLS, DIFFERS, LESS, LISTED, MORE, NO_LESS, NO_MORE, SAME, UNDECIDED, UNDETERMINED,
                             Fault, NamedCall, Report, Verdict, relation_json)
 from ..forms import refusals
 from ..forms.profile_inputs import ProfileInput
 from . import listing
 from .blocks import Block
-from .compare import Comparison, Pair, ProfileComparison, StackComparison, compare_unit
+from .compare import Pair, compare_unit
 
 # What is printed of syscalls that fail a relation.
 FAILED_RELATIONS = {DIFFERS: "that differ", MORE: "answered more permissively than by {}",
@@ -55,13 +54,11 @@ class Newer:
                 "profile": self.profile.as_json(), "are_all": self.others is None}
 
 
-def newer_calls(comparison: Any, scope: str) -> Newer | None:
+def newer_calls(comparison: Pair, scope: str) -> Newer | None:
     """The syscalls above all that a profile names, of each architecture from the first that differs on, if the filters
     deny all of these with one answer, and those before them with the profile's default."""
-    if not isinstance(comparison, Comparison) or scope == ALL or comparison.relation != SAME or comparison.stub:
-        return None
-    default = profiles.default_of(comparison.profile)
-    if default is None or not default.denies:
+    default = profiles.default_of(comparison.profile) if scope != ALL and comparison.relation == SAME else None
+    if default is None or not default.denies or comparison.right.stub:
         return None
     firsts: dict[str, int] = {}
     answers: set[Answer | None] = set()
@@ -70,7 +67,7 @@ def newer_calls(comparison: Any, scope: str) -> Newer | None:
         if not numbers:
             continue
         least = JUDGED[name].first + max(numbers) + 1
-        ranges = Numbers(comparison.differences.regions, JUDGED[name]).ranges
+        ranges = comparison.differences.of_architecture(JUDGED[name]).ranges
         differing = list(itertools.dropwhile(lambda part: not part[2], (
             part for part in ranges or () if part[1] >= least)))
         if differing:
@@ -84,7 +81,7 @@ def newer_calls(comparison: Any, scope: str) -> Newer | None:
         return None
     of_others = itertools.chain(
         (comparison.of_numbers(name, JUDGED[name].first, firsts.get(name, JUDGED[name].last + 1) - 1)
-         for name in comparison.tables.of), comparison.of_other_abis(LISTED, comparison.relation))
+         for name in comparison.tables.of), (access.verdict for access in comparison.asked_accesses(LISTED)))
     return Newer(firsts, answer, default, next((verdict for verdict in of_others if not verdict.holds), None))
 
 
@@ -106,13 +103,13 @@ def count_lines(comparison: Pair, calls: Sequence[NamedCall]) -> Iterator[str]:
         yield from [explanation.MORE_SPLITS] * any(call.verdict.word == UNDECIDED for call in calls)
 
 
-def _call_lines(comparison: Any, report: Report, scope: str) -> tuple[list[str], list[str]]:
+def _call_lines(comparison: Pair, report: Any, scope: str) -> tuple[list[str], list[str]]:
     """The lines before and after the explanation of scf's example, if syscalls differ; call by call they are scf's.
 
     Syscalls that are only newer than the profile are reported apart: first if there are no others, else last.
     """
     calls = comparison.named_calls if scope != CALLS else report.calls
-    if calls is None or report.verdict is None or report.verdict.call is None and scope != CALLS:
+    if calls is None or report.verdict.call is None and scope != CALLS:
         return [], []
     none_named = ["each syscall in the table gets the same answer from both sides" if comparison.relation == SAME else
                   f"no syscall in the table is among those {_failed(comparison, report.verdict.word)}"]
@@ -144,8 +141,7 @@ def _strictness_lines(comparison: Pair, scope: str) -> Iterator[str]:
     they, are, s = ("they", "are", "") if are_several else ("it", "is", "s")
     they = f"over the syscalls in the table: {they}" if scope == CALLS else they
     if no_more is None or not no_more.holds:
-        is_of_profile = isinstance(comparison, Comparison) and not comparison.is_diff
-        if not is_of_profile and no_less is not None and no_less.holds:
+        if (not comparison.profile or comparison.is_diff) and no_less is not None and no_less.holds:
             yield f"{they} {are} more permissive, and never stricter than {other}"
     elif no_less is not None and no_less.holds:
         yield f"{they} {are} neither more permissive nor stricter than {other}: only the answers differ"
@@ -174,7 +170,7 @@ def _example_lines(comparison: Pair, verdict: Verdict, is_native: bool) -> Itera
         yield f"the syscall is {first}, and {second}"
 
 
-def _reasons(comparison: Any, verdict: Verdict) -> list[tuple[int, Any]]:
+def _reasons(comparison: Pair, verdict: Verdict) -> list[tuple[int, Any]]:
     """What gives each side's answer to the example, in the order in which they are shown: a profile's reason, or the
     filter whose path is shown, None if there is none."""
     if verdict.call is None or verdict.filters is None or verdict.profile is None:
@@ -186,13 +182,12 @@ def _reasons(comparison: Any, verdict: Verdict) -> list[tuple[int, Any]]:
             for at, side, _ in order]
 
 
-def difference_lines(comparison: Any, verdict: Verdict) -> Iterator[str]:
+def difference_lines(comparison: Pair, verdict: Verdict) -> Iterator[str]:
     """The lines after a syscall that differs: a profile's reason, and the last tests on a filter's path."""
     found = _reasons(comparison, verdict)
-    of_profiles = [(at, given) for at, given in found if isinstance(comparison.sides[at], ProfileInput)]
+    of_profiles = [(at, given) for at, given in found if isinstance(given, reasons.Reason)]
     for at, reason in of_profiles:
-        side = comparison.sides[at]
-        before = f"{comparison.title(at)}: " * (len(of_profiles) > 1)
+        side, before = comparison.sides[at], f"{comparison.title(at)}: " * (len(of_profiles) > 1)
         yield from (before + line for line in reasons.describe_reason(reason, side.data, verdict.call, side.origins))
     for _, giver in found:
         if isinstance(giver, listing.Giver):
@@ -200,13 +195,13 @@ def difference_lines(comparison: Any, verdict: Verdict) -> Iterator[str]:
             yield from giver.last_tests(verdict.call, comparison.table, name)
 
 
-def _difference_json(comparison: Any, verdict: Verdict) -> dict[str, object]:
+def _difference_json(comparison: Pair, verdict: Verdict) -> dict[str, object]:
     """The same as members of an object: a profile's reason stands in its answer, but beside filters that it judges."""
-    members = verdict.as_json(comparison.table, comparison.names)
+    members: Any = verdict.as_json(comparison.table, comparison.names)
     for at, given in _reasons(comparison, verdict):
         name, side = comparison.names[at], comparison.sides[at]
         if isinstance(side, ProfileInput):
-            holder: Any = members if name == "profile" and isinstance(comparison, Comparison) else members[name]
+            holder = members if name == "profile" and comparison.profile else members[name]
             holder.update(reasons.reason_json(given, side.data, verdict.call, side.origins))
         else:
             path = f"path_{name}" if comparison.is_diff else "path_beside" if at else "path"
@@ -216,28 +211,21 @@ def _difference_json(comparison: Any, verdict: Verdict) -> dict[str, object]:
 
 def faulty_side(comparison: Pair, fault: Fault) -> int:
     """The side that has a fault."""
-    if fault.source == comparison.beside or isinstance(comparison, Comparison) and fault.source == "profile":
-        return 1
-    return 0
+    return int(fault.source == comparison.beside)
 
 
-def fault_sentences(comparison: Any, fault: Fault) -> Iterator[str]:
+def fault_sentences(comparison: Pair, fault: Fault) -> Iterator[str]:
     """The lines about a fault of a comparison."""
-    if isinstance(comparison, StackComparison):
-        yield from explanation.explain_fault(fault)
-        return
-    at = faulty_side(comparison, fault)
-    side, is_pair = comparison.sides[at], isinstance(comparison, ProfileComparison)
-    shown, judged = comparison.fault(fault), comparison.judged[at] if is_pair else comparison.tables
-    yield from refusals.sentences(shown, *((side.data, judged, side.origins) if isinstance(side, ProfileInput) else
-                                           (b"", judged)))
-    if is_pair and shown.source in ("profile", "compile"):
+    at, shown = faulty_side(comparison, fault), comparison.fault(fault)
+    given = comparison.sides[at] if isinstance(comparison.sides[at], ProfileInput) else ProfileInput(b"")
+    yield from refusals.sentences(shown, given.data, comparison.judged[at], given.origins)
+    if isinstance(comparison.left, ProfileInput) and shown.source in ("profile", "compile"):
         yield f"it is {comparison.title(at)}"
         if comparison.is_diff and fault.kind == "EngineForm":
             yield "--caps and the like resolve both profiles as an engine does"
 
 
-def _responsible_files(comparison: Any, report: Report, scope: str) -> Iterator[tuple[str, str]]:
+def _responsible_files(comparison: Pair, report: Report, scope: str) -> Iterator[tuple[str, str]]:
     """The files of the filters that cause a fault or are undecided by themselves, each with a line, where there are
     several filters.
 
@@ -247,62 +235,57 @@ def _responsible_files(comparison: Any, report: Report, scope: str) -> Iterator[
     stacks = [() if isinstance(side, ProfileInput) else side for side in comparison.sides]
     if sum(map(len, stacks)) < 2:
         return
-    fault = report.fault
-    if fault is not None and not isinstance(comparison, ProfileComparison):
-        if isinstance(comparison, StackComparison) and fault.source == comparison.beside:
+    if report.fault is not None:
+        at, fault = faulty_side(comparison, report.fault), report.fault
+        if at:
             # what scf says of one of the first stack
             source = "stack" if fault.kind == "TooMany" else "filter"
-            stacks, fault = stacks[1:], Fault.read(fault.line.replace(comparison.beside, source, 1)) or fault
-        yield from ((name, f"the filter is {name}") for name in refusals.faulty_filters(stacks[0], fault))
-    elif isinstance(comparison, Comparison) and report.verdict and report.verdict.word == UNDECIDED:
-        for each in comparison.filters:
-            verdict = replace(comparison, filters=[each]).run(scope)[1].verdict
+            fault = Fault.read(fault.line.replace(comparison.beside, source, 1)) or fault
+        yield from ((name, f"the filter is {name}") for name in refusals.faulty_filters(stacks[at], fault))
+    elif comparison.profile and report.verdict and report.verdict.word == UNDECIDED:
+        for each in stacks[0]:
+            verdict = replace(comparison, left=[each]).run(scope)[1].verdict
             if verdict and verdict.word == UNDECIDED:
                 yield each.name, f"alone, {each.name} is undecided at {verdict.at}"
 
 
-def comparison_notes(comparison: Any, report: Report, scope: str) -> Iterator[str]:
+def comparison_notes(comparison: Pair, report: Report, scope: str) -> Iterator[str]:
     """The lines after scf's."""
-    verdict, before, after = report.verdict, [], []  # type: ignore
+    verdict, profile = report.verdict, comparison.profile
     if report.fault:
         yield from fault_sentences(comparison, report.fault)
-    if verdict and verdict.word == DIFFERS:
-        yield from _strictness_lines(comparison, scope)
-    if verdict and verdict.fails:
-        before, after = _call_lines(comparison, report, scope)
-    yield from before
-    if verdict and (verdict.fails or verdict.word == UNDETERMINED):
-        yield from _example_lines(comparison, verdict, scope != ALL)
-    elif verdict and not verdict.holds:
-        when, *what_to_do = explanation.what_a_row_says(report.lines[0])
-        yield from (when, *([explanation.MORE_SPLITS] if verdict.word == UNDECIDED else what_to_do))
     if verdict:
+        yield from _strictness_lines(comparison, scope) if verdict.word == DIFFERS else ()
+        before, after = _call_lines(comparison, report, scope) if verdict.fails else ([], [])
+        yield from before
+        if verdict.fails or verdict.word == UNDETERMINED:
+            yield from _example_lines(comparison, verdict, scope != ALL)
+        elif not verdict.holds:
+            when, *what_to_do = explanation.what_a_row_says(report.lines[0])
+            yield from (when, *([explanation.MORE_SPLITS] if verdict.word == UNDECIDED else what_to_do))
         yield from difference_lines(comparison, verdict)
-        profile = comparison.profile if isinstance(comparison, Comparison) else b""
         yield from explanation.explain_skipped(report, comparison.tables, profile)
         yield from explanation.explain_architectures(report)
-    if verdict and isinstance(comparison, Comparison):
         # of other ABIs those that aren't proved to be denied
         yield from (f"{access.describe()}; the profile doesn't name {access.abi.oci}"
                     for access in comparison.asked_accesses(scope) if not access.are_denied)
         yield from (f"{JUDGED[oci].name}: not compared, since its rules aren't known"
-                    for oci in profiles.not_compared_of(comparison.profile))
-    yield from after
+                    for oci in profiles.not_compared_of(profile))
+        yield from after
     yield from (line for _, line in _responsible_files(comparison, report, scope))
 
 
-def comparison_json(comparison: Any, report: Report, scope: str, status: int) -> dict[str, object]:
+def comparison_json(comparison: Pair, report: Report, scope: str, status: int) -> dict[str, object]:
     """The object with everything that `comparison_notes` prints."""
-    verdict, is_of_stacks = report.verdict, isinstance(comparison, StackComparison)
+    verdict, calls, fault = report.verdict, report.calls, report.fault
     members: dict[str, object] = {"status": status, "scope": scope,
                                   "verdict": comparison.word(verdict.word) if verdict else None,
                                   **relation_json(comparison.word(comparison.relation))}
     if scope == LISTED:
         members["architectures"] = list(comparison.named)
-    if report.fault:
-        side = {} if not comparison.is_diff else {"side": comparison.names[faulty_side(comparison, report.fault)]}
-        members["fault"] = {**comparison.fault(report.fault).as_json(fault_sentences(comparison, report.fault)), **side}
-    calls: Sequence[NamedCall] = report.calls
+    if fault:
+        side = {} if not comparison.is_diff else {"side": comparison.names[faulty_side(comparison, fault)]}
+        members["fault"] = {**comparison.fault(fault).as_json(fault_sentences(comparison, fault)), **side}
     if verdict:
         members.update(_difference_json(comparison, verdict))
     if verdict and verdict.word == DIFFERS:
@@ -314,20 +297,17 @@ def comparison_json(comparison: Any, report: Report, scope: str, status: int) ->
             members["newer"] = above.as_json()
     members["calls"] = [{**call.as_json(), "verdict": comparison.word(call.verdict.word),
                          **call.verdict.as_json(comparison.table, comparison.names)} for call in calls]
-    if not is_of_stacks:
+    if isinstance(comparison.right, ProfileInput):
         members["skipped"], members["other_architectures"] = list(report.skipped), list(report.architectures)
     if report.skipped:
         members["unknown"] = [{"name": name, "nearest": near}
                               for name, near in tables.classify(report.skipped, comparison.tables).unknown]
-    if isinstance(comparison, Comparison):
-        if scope != ALL and verdict is not None:
-            members["foreign"] = [access.as_json() for access in comparison.asked_accesses(scope)]
-        if profiles.not_compared_of(comparison.profile):
-            members["not_compared"] = list(profiles.not_compared_of(comparison.profile))
+    if comparison.profile and scope != ALL and verdict:
+        members["foreign"] = [access.as_json() for access in comparison.asked_accesses(scope)]
+    if profiles.not_compared_of(comparison.profile):
+        members["not_compared"] = list(profiles.not_compared_of(comparison.profile))
     files = [name for name, _ in _responsible_files(comparison, report, scope)]
-    if files:
-        members["files"] = files
-    return members
+    return {**members, "files": files} if files else members
 
 
 @dataclass(frozen=True)

@@ -25,6 +25,7 @@ from ..ask.regions import Numbers, Region
 from ..ask.verdicts import NO_LESS, NO_MORE, SAME, NamedCall, Report
 from ..forms import engines, profile_inputs, runtimes
 from ..forms.filters import Filter
+from ..forms.profile_inputs import ProfileInput
 from .compare import TURNED, Comparison
 from .covers import Alternative, Covers
 
@@ -271,14 +272,12 @@ class ProfileRequest:
     def comparison(self, profile: dict[str, object], relation: str = SAME) -> Comparison:
         """The comparison of the filters with a profile, for the same relation with the stub that they have."""
         # (a profile is no less permissive than the filters if these are no more so)
-        comparison = Comparison(self.filters, profiles.read_as(engines.to_bytes(profile), reading_of(profile)),
-                                self.table, TURNED.get(relation, relation), architecture=self.architecture.oci,
-                                elsewhere=other_abis.NAMES)
-        if self.runtime is None:
-            return comparison
-        applied = runtimes.applied(engines.parse_json(comparison.profile), self.runtime)
-        return replace(comparison, profile=applied.data, origins=applied.origins,
-                       stub=applied.stub if relation == SAME and self.has_stub else {})
+        given = ProfileInput(profiles.read_as(engines.to_bytes(profile), reading_of(profile)))
+        if self.runtime is not None:
+            given = runtimes.applied(engines.parse_json(given.data), self.runtime)
+            given = given if relation == SAME and self.has_stub else replace(given, stub={})
+        return Comparison(self.filters, given, self.table, TURNED.get(relation, relation),
+                          architecture=self.architecture.oci, elsewhere=other_abis.NAMES)
 
     def compared(self, profile: dict[str, object], relation: str = SAME) -> tuple[Report, dict[str, int]]:
         """scf's report on whether a profile has this relation to the filters, in each architecture that it lists, and
@@ -290,7 +289,7 @@ class ProfileRequest:
         status, report = comparison.run_unchecked()
         if report.fault is not None and report.fault.source != "profile":
             raise client.Refusal(report.fault.line, status)
-        return report, comparison.stub
+        return report, comparison.right.stub
 
     def calls(self, profile: dict[str, object], relation: str) -> list[NamedCall]:
         """The syscalls in the table of which this relation isn't proved, of a profile that scf takes."""

@@ -16,6 +16,7 @@ from scftools.ask import regions
 from scftools.ask.regions import EVERY_RECORD, Lookup, span_of
 from scftools.ask.verdicts import ALL, CALLS, NATIVE_SCOPE, NO_LESS, NO_MORE, SAME, UNDECIDED, Verdict
 from scftools.forms.filters import Filter
+from scftools.forms.profile_inputs import ProfileInput
 from scftools.report.compare import Comparison, StackComparison
 
 NATIVE, HOLDS = architectures.NATIVE, {word: holds for word, _, holds in RELATIONS.values()}
@@ -93,7 +94,7 @@ class Parsed(unittest.TestCase):
         left, right = ([Filter("", gate(ret(ALLOW), answer))] for answer in (KILL_PROCESS, KILL_THREAD))
         allows = b'{"defaultAction": "SCMP_ACT_ALLOW"}'
         table = tables.read_table(None)
-        for sides in (StackComparison(left, right, table), Comparison(right, allows, table)):
+        for sides in (StackComparison(left, right, table), Comparison(right, ProfileInput(allows), table)):
             self.assertEqual([sides.known_verdict(scope, SAME).word for scope in (ALL, NATIVE_SCOPE, CALLS)],
                              ["differs", SAME, SAME])
 

@@ -20,6 +20,7 @@ from scftools.model.architectures import JUDGED
 from scftools.ask import client, verdicts
 from scftools.forms import engines, runtimes
 from scftools.forms.filters import Filter
+from scftools.forms.profile_inputs import ProfileInput
 from scftools.report.compare import Comparison
 from scfhost import processes
 
@@ -66,8 +67,7 @@ def of_ipc(*more):
 
 def beside(filters, applied):
     """The comparison of filters with a profile as a runtime applies it."""
-    return Comparison([Filter("it", data) for data in filters], applied.data, tables.read_table(None),
-                      stub=applied.stub).run_by_stub()[0]
+    return Comparison([Filter("it", data) for data in filters], applied, tables.read_table(None)).run_by_stub()[0]
 
 
 class Runtimes(Case):
@@ -79,7 +79,7 @@ class Runtimes(Case):
             filters, why = filters_of(applied_profile.runtime.program, seccomp)
             self.assertIsNotNone(filters, why)
         comparison = beside(filters, applied_profile)
-        return comparison.run()[1].printed[0], bool(comparison.stub), applied_profile
+        return comparison.run()[1].printed[0], bool(comparison.right.stub), applied_profile
 
     def same(self, runtime, *entries, **members):
         given = profile(*entries, **members)
@@ -117,8 +117,8 @@ class Runtimes(Case):
             for runtime in ("runc", "crun"):
                 filters, why = filters_of(runtime, given)
                 self.assertIsNotNone(filters, why)
-                comparison = Comparison([Filter("it", data) for data in filters], engines.to_bytes(first_profile),
-                                        tables.read_table(None))
+                comparison = Comparison([Filter("it", data) for data in filters],
+                                        ProfileInput(engines.to_bytes(first_profile)), tables.read_table(None))
                 last = comparison.table.number_of("mkdir")
                 self.assertTrue(comparison.of_numbers(X86_64, last, last).holds, (runtime, given))
 
@@ -192,7 +192,7 @@ class Runtimes(Case):
         for first in (94, 96):
             comparison = beside([stub(first) + rest], applied)
             status, report = comparison.run(verdicts.NATIVE_SCOPE)
-            self.assertEqual((status, report.printed[0], bool(comparison.stub), report.verdict.call.number),
+            self.assertEqual((status, report.printed[0], bool(comparison.right.stub), report.verdict.call.number),
                              (1, "differs", first == 94, first))
         for number in (95, 460, 0x3FFFFFFF):
             hole = load(0) + jeq(number, 0, 1) + ret(ALLOWED) + insn(0, 0) + stub(95) + rest
@@ -222,7 +222,7 @@ class Runtimes(Case):
         self.assertEqual(comparison.of_calls(), [])
         # what differs elsewhere is only that
         stubbed = load(0) + jeq(83, 0, 1) + ret(0x00050016) + insn(0, 0) + filters[0]
-        comparison = replace(comparison, filters=[Filter("it", stubbed)])
+        comparison = replace(comparison, left=[Filter("it", stubbed)])
         self.assertEqual([comparison.run(None, relation)[1].printed[0] for relation in (verdicts.SAME, verdicts.NO_MORE,
                                                                           verdicts.NO_LESS)],
                          ["differs", "no more", "less"])
@@ -352,7 +352,7 @@ class Drawn(Case):
         if filters is None:
             self.assertRegex(why, "(?i)file exists")
             return "only the runtime refuses"
-        return f"{report.verdict.word}{', without its stub' * (comparison.stub != applied.stub)}"
+        return f"{report.verdict.word}{', without its stub' * (comparison.right.stub != applied.stub)}"
 
     def test_drawn_profiles(self):
         for runtime in ("runc", "crun"):

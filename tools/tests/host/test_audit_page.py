@@ -12,6 +12,7 @@ from host.test_audit import process
 from scftools.model import tables
 from scftools.ask import verdicts
 from scftools.forms import stacks
+from scftools.forms.profile_inputs import ProfileInput
 from scftools.report import compare, compare_output, pages, surfaces
 from scfhost import audit_output, audit_page, audit_rows, container_files, machine
 
@@ -73,7 +74,7 @@ class Pages(Case):
                                                          image=HOSTILE, pod=HOSTILE)
         stack = stacks.Stack((filter_of([0, 41]),), False, {7: [7]})
         seven, eight = process(name=os.fsencode(HOSTILE)), process(8)
-        asked = compare.Comparison(stack.named, profile_of("read"), table)
+        asked = compare.Comparison(stack.named, ProfileInput(profile_of("read")), table)
         verdict = asked.run(verdicts.NATIVE_SCOPE, verdicts.NO_MORE)[1].verdict
         rows = [audit_rows.AuditRow(audit_rows.CONTAINER, container.identifier, [seven],
                                     audit_rows.Expectation(source=HOSTILE),

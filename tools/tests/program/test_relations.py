@@ -14,6 +14,7 @@ from support.stand_in import StandIn
 from scftools.model import answers, calls, tables
 from scftools.ask import client, other_abis, regions
 from scftools.forms.filters import Filter
+from scftools.forms.profile_inputs import ProfileInput
 from scftools.report import compare
 
 # Numbers on both sides of all that the filters and profiles here test, of x86-64 and of other architectures.
@@ -178,7 +179,8 @@ class Foreign(Case):
                 (ret(EPERM), ["SCMP_ARCH_X86_64", "SCMP_ARCH_AARCH64"], (), [("i386", True), ("x32", True),
                                                                             ("arm", True)])):
             given = json.dumps({"defaultAction": "SCMP_ACT_ERRNO", "architectures": names}).encode()
-            comparison = compare.Comparison([Filter("", data)], given, tables.read_table(None), elsewhere=elsewhere)
+            comparison = compare.Comparison([Filter("", data)], ProfileInput(given), tables.read_table(None),
+                                            elsewhere=elsewhere)
             self.assertEqual([(access.abi.name, access.are_denied) for access in comparison.accesses], shown)
 
     def test_undecided_and_unfinished(self):

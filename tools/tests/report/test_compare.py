@@ -7,6 +7,7 @@ from support.common import (ALLOW, CORE, EPERM, I386, KILL_PROCESS, KILL_THREAD,
                             filter_of, gate, insn, jeq, jge, load, part, profile_of, ret, text_of)
 from scftools.model import bundles, profiles, tables
 from scftools.ask import client
+from scftools.forms.profile_inputs import ProfileInput
 from scftools.report import compare
 
 READ, WRITE, EXIT_GROUP = 0, 1, 231
@@ -166,7 +167,7 @@ class Compare(Case):
     def test_what_is_left_out_is_what_scf_says(self):
         """By each reading, over x86-64 alone and over each architecture with a table; names may look like its lines."""
         names = ("read", "gone", "mmap2", "x\nother SCMP_ARCH_X", "skipped y", "read", "gone")
-        native = "SCMP_ARCH_X86_64"
+        native, table = "SCMP_ARCH_X86_64", tables.read_table(None)
         entries = [{"names": names, "action": "SCMP_ACT_ALLOW"},
                    {"names": names[1:3], "action": "SCMP_ACT_ERRNO", "errnoRet": 1}]
         for reading in ("strict", "runc", "crun"):
@@ -176,11 +177,11 @@ class Compare(Case):
                     "syscalls": entries[:1 + (reading != "strict")]}).encode())
                 data.reading = reading
                 for is_native in (True, False):
-                    judged = tables.tables_of_profile(data, tables.read_table(None), is_native)
+                    judged = tables.tables_of_profile(data, table, is_native)
                     flags = [] if is_native else ["--architectures"]
                     done = client.run_scf(["compare", *flags, *[f"--reading={reading}"] * (reading != "strict")],
                                       bundles.profile_bundle(data, judged, [ret(ALLOW)]))
-                    report = compare.left_out(data, judged)
+                    report = compare.Comparison([], ProfileInput(data), table, is_native=is_native).left_out[0]
                     text = "".join([f"skipped {name}\n" for name in report.skipped]
                                    + [f"other {name}\n" for name in report.architectures])
                     self.assertEqual(done.text.split("\n", 4)[4], text, (reading, architectures, is_native))
