@@ -1,11 +1,10 @@
 """Changes: an old and a new profile syscall by syscall, by all that scf says they answer differently; also as JSON."""
 from __future__ import annotations
 
-import math
 from collections.abc import Iterable, Iterator, Sequence
 
 from ..base import output
-from ..base.values import Any, dataclass, field
+from ..base.values import Any, dataclass
 from ..model import constants, tables
 from ..model.answers import DISPOSITIONS, FIRST_X32, Answer
 from ..model.architectures import JUDGED, NATIVE, Architecture
@@ -19,8 +18,7 @@ from ..ask.verdicts import (FAILING_WORDS, LESS, MORE, OTHERWISE, SAME, SAME_DIS
 from ..forms.profile_inputs import ProfileInput
 from .compare import ProfileComparison
 
-OLD, NEW = "old", "new"
-BOTH_WAYS = (OLD, NEW), (NEW, OLD)
+AGES = OLD, NEW = "old", "new"
 # The kinds of change, or that scf can't decide, each with the heading that is printed before its count.
 KIND_HEADINGS = {MORE: "syscalls for which the new profile is more permissive",
                  LESS: "syscalls for which the new profile is stricter",
@@ -30,19 +28,17 @@ KIND_HEADINGS = {MORE: "syscalls for which the new profile is more permissive",
 CHANGE_KINDS = (*KIND_HEADINGS,)
 
 
-@dataclass
+@dataclass(frozen=True)
 class Change:
-    """A syscall number that differs, the kind of change, and an example with both answers, if there is one.
-
-    If scf can't decide, the kind is scf's word.
-    """
+    """A syscall number that differs, the kind of change, or scf's word if it can't decide, and an example, if there is
+    one, with each profile's answer and its reason."""
 
     number: int
     names: tuple[str, ...]
     kind: str
-    call: Call | None = None
-    reasons: dict[str, Reason] = field(default_factory=dict)
-    architecture: Architecture = JUDGED[NATIVE]
+    call: Call | None
+    reasons: dict[str, Reason]
+    architecture: Architecture
 
 
 @dataclass(frozen=True)
@@ -58,14 +54,6 @@ class Changes:
     # the least number without a name, if the defaults differ, which answer all such numbers
     unnamed: Change | None = None
 
-    def by_age(self, of_sides: Iterable[Any]) -> dict[str, Any]:
-        """What belongs to each profile, scf's left one first."""
-        return dict(zip(self.pair.names, of_sides))
-
-    @property
-    def sides(self) -> dict[str, ProfileInput]:
-        return self.by_age(self.pair.sides)
-
     @property
     def all(self) -> list[Change]:
         return [*self.calls, *filter(None, [self.unnamed])]
@@ -73,15 +61,20 @@ class Changes:
     @property
     def verdict(self) -> Verdict:
         """The verdict, which some syscall may fail by an example of the tools' own."""
-        failing = {SAME: CHANGE_KINDS, SAME_DISPOSITION: (MORE, LESS)}
-        of_relation = failing.get(self.relation, (FAILING_WORDS[self.relation],))
-        fails = any(change.call is not None and change.kind in of_relation for change in self.all)
-        return Verdict(FAILING_WORDS[self.relation]) if fails or self.whole.fails else self.whole
+        word = FAILING_WORDS[self.relation]
+        failing = {SAME: CHANGE_KINDS, SAME_DISPOSITION: (MORE, LESS)}.get(self.relation, (word,))
+        fails = any(change.call is not None and change.kind in failing for change in self.all)
+        return Verdict(word) if fails or self.whole.fails else self.whole
 
     @property
     def counts(self) -> dict[str, int]:
         kinds = [change.kind for change in self.calls]
         return {kind: kinds.count(kind) for kind in CHANGE_KINDS}
+
+
+def _by_age(of_sides: Iterable[Any]) -> dict[str, Any]:
+    """What belongs to each profile, scf's left one first."""
+    return dict(zip(AGES, of_sides))
 
 
 def _kind(old: Answer, new: Answer) -> str:
@@ -92,7 +85,7 @@ def _kind(old: Answer, new: Answer) -> str:
 
 def _reasons(pair: ProfileComparison, call: Call | None, region: Region | None = None) -> dict[str, Reason]:
     """Each profile's answer to a syscall, if there is one, which may be of a known difference; and its reason."""
-    return {name: pair.reason_of(at, call, region) for at, name in enumerate(pair.names)} if call is not None else {}
+    return _by_age(pair.reason_of(at, call, region) for at in (0, 1)) if call is not None else {}
 
 
 def _of_regions(pair: ProfileComparison, architecture: Architecture, table: tables.Table) -> list[Change] | None:
@@ -129,15 +122,14 @@ def _of_unnamed(pair: ProfileComparison) -> Change | None:
     """Whether the defaults differ, which answer all numbers that a table doesn't name: by the least of them."""
     left, right = (judged.of for judged in pair.judged)
     for architecture in (JUDGED[name] for name in left if name in right):
-        before_stubs = min((side.stub[architecture.oci] - architecture.first
-                            for side in pair.sides if architecture.oci in side.stub), default=FIRST_X32)
-        firsts = (first for first, _ in questions.gaps(left[architecture.oci], architecture))
-        number = next((first for first in firsts if first < before_stubs), None)
-        call = None if number is None else Call(architecture.first + number, architecture.number)
-        if call is None or pair.differences.is_finished and not pair.differences.of_number(call):
+        stubs = (side.stub[architecture.oci] for side in pair.sides if architecture.oci in side.stub)
+        number = next((first for first, _ in questions.gaps(left[architecture.oci], architecture)), FIRST_X32)
+        call = Call(architecture.first + number, architecture.number)
+        if call.number >= min(stubs, default=architecture.first + FIRST_X32) or \
+                pair.differences.is_finished and not pair.differences.of_number(call):
             continue
         asked = _reasons(pair, call)
-        old, new = (asked[side].answer for side in (OLD, NEW))
+        old, new = (reason.answer for reason in asked.values())
         if old != new:
             return Change(number, (), _kind(old, new) if old and new else OTHERWISE, call, asked, architecture)
     return None
@@ -146,56 +138,48 @@ def _of_unnamed(pair: ProfileComparison) -> Change | None:
 def changes_of(pair: ProfileComparison, report: Report) -> Changes:
     """The differences between two profiles, by scf's report on the relation of the new one to the old one."""
     relation, are_same = pair.word(pair.relation), pair.run(relation=SAME)[1].verdict.holds
-    whole = report.verdict.of_relation(relation)
-    return Changes(pair, relation, whole) if are_same else Changes(pair, relation, whole, _of_calls(pair),
-                                                                   _of_unnamed(pair))
+    found = () if are_same else (_of_calls(pair), _of_unnamed(pair))
+    return Changes(pair, relation, report.verdict.of_relation(relation), *found)
 
 
-def line_of(change: Change, sides: dict[str, ProfileInput]) -> str:
+def line_of(change: Change, sides: Sequence[ProfileInput]) -> str:
     """The line of a change: number, names, kind, an example, and for each profile its answer and what gives it, an
     entry by its index in the user's profile."""
     shown = (str(change.number), ",".join(change.names), change.kind)
     words = [change.architecture.marked(" ".join(filter(None, shown)))]
     if change.call is not None:
         words += ["args", *map(hex, change.call.arguments)]
-    for name, reason in change.reasons.items():
-        entry = [] if reason.entry is None else [str(reasons.index_of(reason, sides[name].origins))]
+    for (name, reason), side in zip(change.reasons.items(), sides):
+        entry = [] if reason.entry is None else [str(reasons.index_of(reason, side.origins))]
         words += [name, str(reason.answer), reason.by, *entry]
     return " ".join(words)
 
 
 def _entries(changes: Changes) -> Iterator[str]:
     """The entries that give answers, each once, the stubs, and the defaults."""
-    for name, side in changes.sides.items():
-        of_side = [change.reasons[name] for change in changes.all
-                   if change.reasons and not change.reasons[name].is_foreign]
+    for name, side in zip(AGES, changes.pair.sides):
+        given = (change.reasons[name] for change in changes.all if change.reasons)
         # (a stub stands behind all entries)
-        reason_of = {math.inf if reason.by == "stub" else reason.entry: reason for reason in of_side}
-        for place in sorted(place for place in reason_of if place is not None):
-            by = next(iter(reasons.describe_reason(reason_of[place], side.data, None, side.origins)), "")
-            yield f"{name}: {by.partition(' ')[2]}"
-        if None in reason_of:
-            answer = reason_of[None].answer
-            yield f"{name}: default: {answer.describe() if answer else ''}"
+        of_side = {({"entry": 0, "stub": 1}.get(reason.by, 2), reason.entry or 0): reason
+                   for reason in given if not reason.is_foreign}
+        for (place, _), reason in sorted(of_side.items(), key=lambda item: item[0]):
+            by = next(reasons.describe_reason(reason, side.data, None, side.origins), "").partition(" ")[2]
+            yield f"{name}: " + (by if place < 2 else f"default: {reason.answer.describe() if reason.answer else ''}")
 
 
-def _apart(subject: str, of_sides: dict[str, Sequence[str]]) -> Iterator[str]:
+def _apart(subject: str, old: Sequence[str], new: Sequence[str]) -> Iterator[str]:
     """Counts of what scf leaves out of each profile, names or architectures, and what it leaves out of one alone."""
-    counts = {side: len(set(names)) for side, names in of_sides.items()}
-    if not any(counts.values()):
-        return
-    yield f"{subject}: {counts[OLD]} in the old profile, {counts[NEW]} in the new one"
-    for side, other_side in BOTH_WAYS:
-        others = set(of_sides[other_side])
-        names = [name for name in dict.fromkeys(of_sides[side]) if name not in others]
-        if names:
-            yield f"only in the {side} one: {output.some(names, tables.MOST_LISTED)}"
+    if old or new:
+        yield f"{subject}: {len(set(old))} in the old profile, {len(set(new))} in the new one"
+    for age, names, others in ((OLD, old, set(new)), (NEW, new, set(old))):
+        alone = [name for name in dict.fromkeys(names) if name not in others]
+        if alone:
+            yield f"only in the {age} one: {output.some(alone, tables.MOST_LISTED)}"
 
 
 def change_lines(changes: Changes) -> Iterator[str]:
     """The verdict, the counts, and the changes; added lines are marked by `# `."""
-    sides, unnamed, left_out = changes.sides, changes.unnamed, changes.by_age(changes.pair.left_out)
-    alone = changes.by_age(changes.pair.alone)
+    sides, (old, new) = changes.pair.sides, changes.pair.left_out
     yield changes.verdict.word
     yield ", ".join(f"{kind} {count}" for kind, count in changes.counts.items()
                     if count or kind not in (UNDECIDED, UNFINISHED))
@@ -205,46 +189,42 @@ def change_lines(changes: Changes) -> Iterator[str]:
         for change in (change for change in changes.calls if change.kind == kind):
             yield line_of(change, sides)
             # the conditions that the example meets, and the example as C would have it
-            notes = [f"{name}: {line}" for name, reason in change.reasons.items()
-                     for line in reasons.conditions_met(reason, sides[name].data, change.call)]
+            notes = [f"{name}: {line}" for (name, reason), side in zip(change.reasons.items(), sides)
+                     for line in reasons.conditions_met(reason, side.data, change.call)]
             if change.names and change.call is not None and any(change.call.arguments):
                 notes.append(f"the syscall is {constants.call_text(change.names[0], change.call.arguments)}")
             yield from output.notes(notes)
-    if unnamed is not None:
+    if changes.unnamed is not None:
         yield "# numbers that the table doesn't name get the defaults, for example:"
-        yield line_of(unnamed, sides)
+        yield line_of(changes.unnamed, sides)
     yield from output.notes(_entries(changes))
-    yield from output.notes(_apart("names that were skipped because no table has them",
-                                   {side: report.skipped for side, report in left_out.items()}))
-    for side, other_side in BOTH_WAYS:
-        if alone[side]:
-            yield (f"# only the {side} profile names {join_names(alone[side])}: the {other_side} one kills a "
-                   f"process that makes such a syscall")
-    yield from output.notes(_apart("other architectures, not compared",
-                                   {side: report.architectures for side, report in left_out.items()}))
+    yield from output.notes(_apart("names that were skipped because no table has them", old.skipped, new.skipped))
+    for age, other, names in zip(AGES, (NEW, OLD), changes.pair.alone):
+        if names:
+            yield (f"# only the {age} profile names {join_names(names)}: the {other} one kills a process that makes "
+                   f"such a syscall")
+    yield from output.notes(_apart("other architectures, not compared", old.architectures, new.architectures))
     if UNDECIDED in (changes.whole.word, *(change.kind for change in changes.all)):
         yield f"# {MORE_SPLITS}"
 
 
-def _change_json(changes: Changes, change: Change) -> dict[str, object]:
+def _change_json(pair: ProfileComparison, change: Change) -> dict[str, object]:
     members: dict[str, object] = {"number": change.number, "names": list(change.names), "change": change.kind}
     if change.architecture.oci != NATIVE:
         members["architecture"] = change.architecture.name
     if change.call is not None:
-        members["call"] = change.call.as_json(changes.pair.table)
-    for name, reason in change.reasons.items():
+        members["call"] = change.call.as_json(pair.table)
+    for (name, reason), side in zip(change.reasons.items(), pair.sides):
         answer = {"answer": reason.answer.as_json(explains=True)} if reason.answer else {}
-        side = changes.sides[name]
         members[name] = {**answer, **reasons.reason_json(reason, side.data, change.call, side.origins)}
     return members
 
 
 def changes_json(changes: Changes) -> dict[str, object]:
     """The object with everything that `change_lines` prints."""
-    unnamed, left_out = changes.unnamed, changes.by_age(changes.pair.left_out)
-    return {**relation_json(changes.relation), "verdict": changes.verdict.word,
-            "counts": changes.counts, "changes": [_change_json(changes, change) for change in changes.calls],
-            "unnamed": None if unnamed is None else _change_json(changes, unnamed),
-            "skipped": {side: list(report.skipped) for side, report in left_out.items()},
-            "alone": changes.by_age(changes.pair.alone),
-            "other_architectures": {side: list(report.architectures) for side, report in left_out.items()}}
+    pair, unnamed = changes.pair, changes.unnamed
+    return {**relation_json(changes.relation), "verdict": changes.verdict.word, "counts": changes.counts,
+            "changes": [_change_json(pair, change) for change in changes.calls],
+            "unnamed": None if unnamed is None else _change_json(pair, unnamed),
+            "skipped": _by_age(list(report.skipped) for report in pair.left_out), "alone": _by_age(pair.alone),
+            "other_architectures": _by_age(list(report.architectures) for report in pair.left_out)}
