@@ -64,18 +64,13 @@ def newer_calls(comparison: Pair, scope: str) -> Newer | None:
     answers: set[Answer | None] = set()
     for name, table in comparison.tables.of.items():
         numbers = {table.number_of(syscall) for syscall in profiles.names_of(comparison.profile)} - {None}
-        if not numbers:
-            continue
-        least = JUDGED[name].first + max(numbers) + 1
-        ranges = comparison.differences.of_architecture(JUDGED[name]).ranges
-        differing = list(itertools.dropwhile(lambda part: not part[2], (
-            part for part in ranges or () if part[1] >= least)))
-        if differing:
-            firsts[name] = max(differing[0][0], least)
-        for _, _, here in differing:
-            # (a known answer to all syscalls of these numbers)
-            is_one = len(here) == 1 and here[0].is_decided and here[0].words.keys() <= {NUMBER, ARCHITECTURE}
-            answers.add(here[0].answer if is_one else None)
+        least = JUDGED[name].first + max(numbers, default=0) + 1
+        for low, high, here in comparison.differences.of_architecture(JUDGED[name]).ranges or () if numbers else ():
+            if high >= least and (here or name in firsts):
+                firsts.setdefault(name, max(low, least))
+                # (a known answer to all syscalls of these numbers)
+                is_one = len(here) == 1 and here[0].is_decided and here[0].words.keys() <= {NUMBER, ARCHITECTURE}
+                answers.add(here[0].answer if is_one else None)
     answer = answers.pop() if len(answers) == 1 else None
     if answer is None or not answer.denies:
         return None
@@ -136,21 +131,20 @@ def _dispositions(comparison: Pair, scope: str) -> list[Verdict | None]:
 def _strictness_lines(comparison: Pair, scope: str) -> Iterator[str]:
     """A line if the sides differ, and the judged one is never more permissive."""
     no_more, no_less = _dispositions(comparison, scope)
+    hold = [verdict is not None and verdict.holds for verdict in (no_more, no_less)]
     judged, other = comparison.sides[1 - comparison.judging], comparison.title(comparison.judging)
     are_several = not isinstance(judged, ProfileInput) and len(judged) > 1
     they, are, s = ("they", "are", "") if are_several else ("it", "is", "s")
     they = f"over the syscalls in the table: {they}" if scope == CALLS else they
-    if no_more is None or not no_more.holds:
-        if (not comparison.profile or comparison.is_diff) and no_less is not None and no_less.holds:
-            yield f"{they} {are} more permissive, and never stricter than {other}"
-    elif no_less is not None and no_less.holds:
+    if hold == [True, True]:
         yield f"{they} {are} neither more permissive nor stricter than {other}: only the answers differ"
-    elif no_less is not None and no_less.fails:
-        answer = no_less.profile if comparison.is_turned else no_less.filters
-        is_denied = no_less.call is None or answer is None or answer.disposition == DENIED
-        less = f"{are} stricter, and" if is_denied else f"delegate{s} more to a supervisor or tracer, and {are}"
-        yield f"{they} {less} never more permissive than {other}"
-    else:
+    elif hold[1] and (not comparison.profile or comparison.is_diff):
+        yield f"{they} {are} more permissive, and never stricter than {other}"
+    elif hold[0]:
+        if no_less is not None and no_less.fails:
+            answer = no_less.profile if comparison.is_turned else no_less.filters
+            are = f"{are} stricter, and" if answer is None or answer.disposition == DENIED else \
+                f"delegate{s} more to a supervisor or tracer, and {are}"
         yield f"{they} {are} never more permissive than {other}"
 
 
@@ -339,8 +333,7 @@ class Judgement:
             return self.first
         calls = self.comparison.named_calls or ()
         shown = next((named.verdict for named in calls if is_telling(named.verdict)), whole)
-        beside = self.first.lines[3].partition(" ")[0]
-        return replace(self.first, lines=Report.of(shown, beside).lines, verdict=shown)
+        return replace(self.first, lines=Report.of(shown, self.comparison.beside).lines, verdict=shown)
 
     def block(self, is_verbose: bool = False) -> Block:
         """What a command says of it; the verdict doesn't wait for what explains it."""
