@@ -53,7 +53,7 @@ from ..cli import words
 from ..forms import operands, runtimes
 from ..forms.profile_inputs import ProfileInput
 from ..report import decisions
-from ..report.blocks import put_blocks
+from ..report.blocks import put_block, put_blocks
 
 OF_PROFILES = ("native", "strict", "runtime", "caps", "machine")
 
@@ -107,8 +107,9 @@ def main():
             return decisions.unmet_block(options, table, stack)
         if options.steps and len(stack) > 1:
             raise program.ToolError("--steps counts the instructions of one filter, and there are several")
-        return decisions.replies(options, table, lambda query: decisions.of_run(
-            stack[0], query, options.path) if options.steps else decisions.stack_decisions(stack, query))
+        return decisions.replies([decisions.of_run(stack[0], query, table, options.path) if options.steps else
+                                  decisions.stack_decisions(stack, query, table)
+                                  for query in decisions.queries(options, table)])
 
     if not isinstance(given, ProfileInput):
         # (of standard input alone number 0 is answered, as by the program)
@@ -123,5 +124,5 @@ def main():
             raise program.ToolError("a syscall has at most six arguments; more filters than one go with --nr")
         return put_blocks(given, judge, options.json)
     judged = given.judged(table, options.native)
-    return put_blocks([], lambda _: decisions.replies(options, table, lambda query: decisions.profile_decisions(
-        given.data, query, judged, given.origins)), options.json)
+    return put_block(decisions.replies([decisions.profile_decisions(given, query, judged, table)
+                                        for query in decisions.queries(options, table)]), options.json)

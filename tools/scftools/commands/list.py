@@ -98,10 +98,9 @@ def main():
     parser.one_standard_input([options.filter, options.table])
     parser.reject((options.plain + options.dot + options.json > 1, "give one of --plain, --dot and --json"))
     table = tables.read_table(options.table)
-    numbering, query = decisions.Numbering(table, options.arch), None
-    fields = decisions.rest_of(options, numbering)
-    if options.nr is not None or fields:
-        query = decisions.Query((("nr", numbering.number_of("0" if options.nr is None else options.nr)), *fields))
+    numbering = decisions.Numbering(options, table)
+    query = None if options.nr is None and not numbering.fields else \
+        numbering.query("0" if options.nr is None else options.nr)
     given = operands.read_stacks([options.filter], options)
     parser.reject((options.plain and query is not None, "--plain marks no instructions"))
     return put_blocks(given, lambda stack: of_stack(stack, options, table, query), options.json)

@@ -7,19 +7,20 @@ from collections.abc import Callable, Iterable, Iterator, Sequence
 
 from ..base import inputs, output, program
 from ..base.inputs import LONGEST_LINE
-from ..base.values import Any, Pattern, dataclass, replace
+from ..base.values import Any, Pattern, dataclass
 from ..model import architectures, profiles, tables
 from ..model.answers import DOES, FIRST_X32, NUMBERS_OF_ERRNOS, X86_64, Answer
 from ..model.calls import OPTIONS, SKIPPED, Call
 from ..model.constants import argument_in, number_in
-from ..model.profiles import Origin
 from ..model.tables import Table, Tables
 from ..ask import client, explanation, reasons
 from ..ask.client import Fault, Refusal
-from ..ask.verdicts import FOR_OTHER_ABI, UNDETERMINED
+from ..ask.reasons import Reason
+from ..ask.verdicts import FOR_OTHER_ABI, UNDETERMINED, Decision
 from ..cli.words import Parser
 from ..forms import refusals
 from ..forms.filters import Filter
+from ..forms.profile_inputs import ProfileInput
 from . import listing
 from .blocks import Block, of_fault
 
@@ -31,17 +32,17 @@ FIELD_HELP = {"ip": "the instruction pointer", **{f"a{index}": f"argument {index
 
 @dataclass(frozen=True)
 class Query:
-    """A record whose answer is wanted: the options of scf as texts; scf checks the numbers."""
+    """A record whose answer is wanted: the texts of scf's options by their names; scf checks the numbers."""
 
-    texts: tuple[tuple[str, str], ...]
+    texts: dict[str, str]
 
     def words(self) -> list[str]:
-        return [f"--{name}={text}" for name, text in self.texts]
+        return [f"--{name}={text}" for name, text in self.texts.items()]
 
     @property
     def call(self) -> Call | None:
         """The record, if each text is a number."""
-        texts = {"arch": hex(X86_64), **dict(self.texts)}
+        texts = {"arch": hex(X86_64), **self.texts}
         numbers = [number_in(texts.get(name, "0")) for name in OPTIONS]
         return None if None in numbers else Call(*numbers[:3], tuple(numbers[3:]))
 
@@ -70,14 +71,17 @@ def add_options(parser: Parser) -> None:
     parser.record_words = record_words
 
 
-@dataclass(frozen=True)
 class Numbering:
-    """How the fields of a record are given: a syscall by a name of its architecture's table or by a number, an argument
-    by constants or a number. `table` is that of x86-64."""
+    """How a command line gives the fields of records: a syscall by a name of its architecture's table or by a number,
+    an argument by constants or a number. The table is that of x86-64."""
 
-    table: Table
-    # --arch as given, or None
-    architecture: str | None
+    def __init__(self, options: Any, table: Table) -> None:
+        # --arch as given, or None
+        self.table, self.architecture = table, options.arch
+        given = {name: getattr(options, name) for name in OPTIONS[1:] if getattr(options, name) is not None}
+        # the fields beside the number that all records have which don't give their own
+        self.fields = {name: architectures.number_in(text) if name == "arch" else self.argument(text)
+                       for name, text in given.items()}
 
     @property
     def abi(self) -> str:
@@ -114,20 +118,16 @@ class Numbering:
         """An argument as scf takes it."""
         return argument_in(text, self.abi)
 
-
-def rest_of(options: Any, numbering: Numbering) -> tuple[tuple[str, str], ...]:
-    """The given fields of a record beside its number."""
-    texts = {name: getattr(options, name) for name in OPTIONS[1:] if getattr(options, name) is not None}
-    for name, text in texts.items():
-        texts[name] = architectures.number_in(text) if name == "arch" else numbering.argument(text)
-    return tuple(texts.items())
+    def query(self, number: str, *arguments: str) -> Query:
+        """The record of a syscall, given with its first arguments."""
+        fields = {**self.fields, **dict(zip(OPTIONS[3:], map(self.argument, arguments)))}
+        return Query({"nr": self.number_of(number), **fields})
 
 
 def queries(options: Any, table: Table) -> list[Query]:
     """The records that a command line gives, in order; without a syscall the program's default, of number 0. In a list
     of syscalls a line that begins with `#` is a comment."""
-    numbering = Numbering(table, options.arch)
-    fields = rest_of(options, numbering)
+    numbering = Numbering(options, table)
     calls = [[number] for text in options.nr for number in text.split(",")] + [options.call] * bool(options.call)
     if options.calls_from is None:
         calls = calls or [["0"]]
@@ -142,12 +142,7 @@ def queries(options: Any, table: Table) -> list[Query]:
                 calls.append(words)
                 if len(calls) - before > MOST_CALLS:
                     raise program.ToolError(f"the list has more than {MOST_CALLS} syscalls")
-    listed = []
-    for number, *arguments in calls:
-        own_fields = tuple(zip(OPTIONS[3:], map(numbering.argument, arguments)))
-        other_fields = tuple(pair for pair in fields if pair[0] not in dict(own_fields))
-        listed.append(Query((("nr", numbering.number_of(number)), *other_fields, *own_fields)))
-    return listed
+    return [numbering.query(*words) for words in calls]
 
 
 def record_words(options: Any) -> list[str] | None:
@@ -170,90 +165,75 @@ def of_givers(filters: Sequence[Filter], givers: Sequence[listing.Giver]) -> Ite
         yield f"{which} {explanation.join_names(names)}"
 
 
-@dataclass(frozen=True)
-class Reply:
-    """The answer of filters or a profile to a syscall: scf's status and lines, the syscall, and the answer or a fault;
-    and what gives the answer, in lines and as members in JSON, which takes time to find."""
+def _reply(status: int, call: Call | None, decided: Decision | Reason, table: Table, given: Iterable[str] = (),
+           members: Callable[[], dict[str, object]] = dict, lines: Sequence[str] = (),
+           sentences: Callable[[Fault], Iterable[str]] = explanation.explain_fault) -> Block:
+    """The answer of filters or a profile to a syscall, or a fault: scf's status and line, or its lines, and what a
+    fault is. What gives the answer, in lines and as members in JSON, takes time to find."""
+    answer, fault = decided.answer, decided.fault
+    of_fault = sentences(fault) if fault else ()
 
-    status: int
-    lines: Sequence[str]
-    call: Call | None
-    answer: Answer | None = None
-    fault: Fault | None = None
-    # what the fault is, and what to do
-    sentences: Callable[[Fault], Iterable[str]] = explanation.explain_fault
-    reasons: Callable[[], Iterable[str]] = tuple
-    members: Callable[[], dict[str, object]] = dict
+    def printed() -> list[str]:
+        of_answer = explanation.explain_answer(call, answer, table) if answer else ()
+        return [*(lines or filter(None, [decided.line])), *output.notes([*of_fault, *of_answer, *given])]
 
-    def printed(self, table: Table) -> Iterator[str]:
-        """scf's lines, and what explains them."""
-        of_fault = self.sentences(self.fault) if self.fault else ()
-        of_answer = explanation.explain_answer(self.call, self.answer, table) if self.answer else ()
-        yield from [*self.lines, *output.notes([*of_fault, *of_answer, *self.reasons()])]
-
-    def as_json(self, table: Table) -> dict[str, object]:
-        return {"status": self.status, **({"call": self.call.as_json(table)} if self.call else {}),
-                **({"answer": self.answer.as_json(explains=True)} if self.answer else {}),
-                **({"fault": self.fault.as_json(self.sentences(self.fault))} if self.fault else {}), **self.members()}
+    return Block(status, printed, lambda: {
+        **({"call": call.as_json(table)} if call else {}),
+        **({"answer": answer.as_json(explains=True)} if answer else {}),
+        **({"fault": fault.as_json(of_fault)} if fault else {}), **members()})
 
 
-def stack_decisions(filters: Sequence[Filter], query: Query) -> Reply:
+def stack_decisions(filters: Sequence[Filter], query: Query, table: Table) -> Block:
     """The reply of a stack, with the filter that gives the answer, and the path through it."""
     status, decision, paths = listing.run_stack(filters, query.words())
-    givers = listing.givers(filters, paths, decision.answer)
+    givers, fault = listing.givers(filters, paths, decision.answer), decision.fault
     giver = listing.to_show(givers)
 
-    def reasons() -> Iterator[str]:
-        yield from refusals.stack_refusals(filters, decision.fault)
+    def given() -> Iterator[str]:
+        yield from refusals.stack_refusals(filters, fault)
         yield from of_givers(filters, givers)
         if giver is not None:
             yield f"the path in {giver.describe()}: {giver.path.describe()}"
 
     def members() -> dict[str, object]:
-        files = [giver.filter.name for giver in givers]
-        if decision.fault:
-            files = refusals.faulty_filters(filters, decision.fault)
-        return {**({"filters": files} if len(filters) > 1 and (giver or decision.fault) else {}),
+        files = refusals.faulty_filters(filters, fault) if fault else [giver.filter.name for giver in givers]
+        return {**({"filters": files} if len(filters) > 1 and (giver or fault) else {}),
                 **({"path": giver.as_json()} if giver else {})}
 
-    return Reply(status, [decision.line] if decision.line else [], query.call, decision.answer, decision.fault,
-                 reasons=reasons, members=members)
+    return _reply(status, query.call, decision, table, given(), members)
 
 
-def of_run(bpf_filter: Filter, query: Query, with_path: bool) -> Reply:
+def of_run(bpf_filter: Filter, query: Query, table: Table, with_path: bool) -> Block:
     """The reply of one filter, with the number of instructions that run, and on request their path."""
     path = listing.path_of(bpf_filter.data, query.words(), with_path)
-    decision = path.decision
-    members: dict[str, object] = {} if decision.steps is None else {"steps": decision.steps}
+    members: dict[str, object] = {} if path.decision.steps is None else {"steps": path.decision.steps}
     if path.indexes:
         members["path"] = listing.Giver(bpf_filter, True, path).as_json()
-    return Reply(path.status, path.lines, query.call, decision.answer, decision.fault, members=lambda: members)
+    return _reply(path.status, query.call, path.decision, table, members=lambda: members, lines=path.lines)
 
 
-def is_undetermined(reason: reasons.Reason, call: Call, profile: bytes, judged: Tables) -> bool:
+def is_undetermined(reason: Reason, call: Call, profile: bytes, judged: Tables) -> bool:
     """Whether a syscall is of an architecture that the profile names, and that isn't judged."""
     return reason.is_foreign and call.abi not in judged.of and call.abi in profiles.architectures_of(profile)
 
 
-def profile_decisions(profile: bytes, query: Query, judged: Tables, origins: Sequence[Origin] | None = None) -> Reply:
+def profile_decisions(given: ProfileInput, query: Query, judged: Tables, table: Table) -> Block:
     """The reply of a profile, with its reason; of a resolved profile with the entries' indexes in the user's file."""
-    reason, call = reasons.profile_reason(profile, judged, query.words()), query.call
+    profile, origins, call = given.data, given.origins, query.call
+    reason = reasons.profile_reason(profile, judged, query.words())
     if call is not None and is_undetermined(reason, call, profile, judged):
-        return Reply(program.UNKNOWN, [FOR_OTHER_ABI], call,
-                     reasons=lambda: explanation.explain_call(call, judged.native),
-                     members=lambda: {"reason": UNDETERMINED})
-    return Reply(reason.status, [reason.line] if reason.line else [], call, reason.answer, reason.fault,
-                 lambda fault: refusals.sentences(fault, profile, judged, origins),
-                 lambda: reasons.describe_reason(reason, profile, call, origins),
-                 lambda: reasons.reason_json(reason, profile, call, origins))
+        return _reply(program.UNKNOWN, call, Decision(FOR_OTHER_ABI), table,
+                      explanation.explain_call(call, judged.native), lambda: {"reason": UNDETERMINED})
+    return _reply(reason.status, call, reason, table, reasons.describe_reason(reason, profile, call, origins),
+                  lambda: reasons.reason_json(reason, profile, call, origins),
+                  sentences=lambda fault: refusals.sentences(fault, profile, judged, origins))
 
 
-def replies(options: Any, table: Table, answer: Callable[[Query], Reply]) -> Block:
-    """The replies to the queries of a command line; their status is the worst."""
-    made = [answer(query) for query in queries(options, table)]
+def replies(made: Sequence[Block]) -> Block:
+    """Several replies; their status is the worst."""
     return Block(client.worst(reply.status for reply in made),
-                 lambda: [line for reply in made for line in reply.printed(table)],
-                 lambda: {"calls": [reply.as_json(table) for reply in made]})
+                 lambda: [line for reply in made for line in reply.lines()],
+                 lambda: {"calls": [{"status": reply.status, **reply.members()} for reply in made]})
 
 
 # What messages call the input, the most bytes that are read of it, and the most rows, which take some seconds.
@@ -282,7 +262,7 @@ class ExpectedRow:
                 "line": self.line, "expected": {"action": self.action, "data": self.data}}
 
 
-def _row(line: int, text: str, numbering: Numbering, defaults: dict[str, str]) -> ExpectedRow:
+def _row(line: int, text: str, numbering: Numbering) -> ExpectedRow:
     def fails(what: str) -> program.ToolError:
         return program.ToolError(f"line {line} of the rows {what}: {output.escaped(output.cut(text, 80))}")
 
@@ -298,28 +278,24 @@ def _row(line: int, text: str, numbering: Numbering, defaults: dict[str, str]) -
         data = named if named is not None or match[3] is None else int(match[3], 0)
     except ValueError:
         raise fails("has an answer whose data isn't a number") from None
-    arguments = dict(zip(OPTIONS[3:], map(numbering.argument, words[1:])))
-    call = Query((("nr", numbering.number_of(words[0])), *{**defaults, **arguments}.items())).call
+    call = numbering.query(*words).call
     if call is None:
         raise fails("has a value that isn't a number")
     return ExpectedRow(line, match[1].strip(), call, match[2], data)
 
 
-def read_expectations(name: str, numbering: Numbering, defaults: dict[str, str]) -> Iterator[ExpectedRow]:
-    """The rows of a file, but for comments, which begin with `#`. `defaults` are the fields that a row doesn't give."""
-    unfinished, line, count = b"", 0, 0
-    for piece in [*inputs.input_pieces(name, INPUT_KIND, LONGEST_LIST), b"\n"]:
-        *whole, unfinished = (unfinished + piece).split(b"\n")
-        if len(unfinished) > LONGEST_LINE:
-            raise program.ToolError(f"line {line + len(whole) + 1} of the rows has more than {LONGEST_LINE} bytes")
-        for row in whole:
-            line += 1
-            text = row.decode("utf-8", "surrogateescape").strip()
-            if text and not text.startswith("#"):
-                count += 1
-                if count > MOST_ROWS:
-                    raise program.ToolError(f"the file has more than {MOST_ROWS} rows")
-                yield _row(line, text, numbering, defaults)
+def read_expectations(name: str, numbering: Numbering) -> Iterator[ExpectedRow]:
+    """The rows of a file, but for comments, which begin with `#`."""
+    count = 0
+    for line, row in enumerate(b"".join(inputs.input_pieces(name, INPUT_KIND, LONGEST_LIST)).split(b"\n"), 1):
+        text = row.decode("utf-8", "surrogateescape").strip()
+        if len(row) > LONGEST_LINE:
+            raise program.ToolError(f"line {line} of the rows has more than {LONGEST_LINE} bytes")
+        if text and not text.startswith("#"):
+            count += 1
+            if count > MOST_ROWS:
+                raise program.ToolError(f"the file has more than {MOST_ROWS} rows")
+            yield _row(line, text, numbering)
 
 
 def unmet_block(options: Any, table: Table, stack: Sequence[Filter]) -> Block:
@@ -327,13 +303,12 @@ def unmet_block(options: Any, table: Table, stack: Sequence[Filter]) -> Block:
     regions of one start of scf, or where it leaves these undecided by a start for the row."""
     from ..ask import questions, regions  # pylint: disable=import-outside-toplevel
 
-    numbering, data = Numbering(table, options.arch), [bpf_filter.data for bpf_filter in stack]
-    rows = list(read_expectations(options.expect, numbering, dict(rest_of(options, numbering))))
+    data = [bpf_filter.data for bpf_filter in stack]
+    rows = [*read_expectations(options.expect, Numbering(options, table))]
     try:
         asker, lookup = questions.Asker(data), regions.Lookup(regions.regions_of_filters(data))
     except Refusal as why:
-        block = of_fault(why.status, why.line, stack)
-        return replace(block, members=lambda: {"calls": [{"status": block.status, **block.members()}]})
+        return replies([of_fault(why.status, why.line, stack)])
     unmet = []
     for row in rows:
         region = lookup.of(row.call)
