@@ -47,7 +47,7 @@ def listed(bpf_filter, options, table, query):
         return Block(done.status, lambda: [*done.lines, *output.notes(explanation.explain_line(done.line))])
     if done.status != program.SUCCESS:
         return of_fault(done.status, done.line)
-    path = listing.path_of(data, query.words()) if query is not None else None
+    path = listing.path_of(bpf_filter, query.words()) if query is not None else None
     if path is not None and path.decision.answer is None:
         return of_fault(path.status, path.decision.line)
     explained = list(enumerate(zip(done.lines, listing.meanings(data, table))))
@@ -63,8 +63,7 @@ def listed(bpf_filter, options, table, query):
             *output.notes(explanation.explain_answer(query.call, path.decision.answer, table))]
 
     def members():
-        of_call = {} if path is None else {"call": query.call.as_json(table),
-                                           "path": listing.Giver(bpf_filter, True, path).as_json(),
+        of_call = {} if path is None else {"call": query.call.as_json(table), "path": path.as_json(),
                                            "answer": path.decision.answer.as_json(explains=True)}
         return {"instructions": [{"index": index, "text": line, "meaning": meaning}
                                  for index, (line, meaning) in explained], **of_call}

@@ -281,10 +281,10 @@ def _of_filters(case: Case, cause: Cause) -> Iterator[str]:
     given = cause.given
     yield case.answer.line
     givers, = listing.deciding_filters([(given.filters, case.answer)], case.call.words())
-    giver = listing.to_show(givers)
+    shown = listing.to_show(givers)
     yield from output.notes([case.answer.describe(), *_of_case(case, cause.event, given.table),
                              *decisions.of_givers(given.filters, givers),
-                             *(giver.last_tests(case.call, given.table) if giver is not None else ())])
+                             *(shown.last_tests(case.call, given.table, shown.title(given.filters)) if shown else ())])
 
 
 def cause_lines(cause: Cause) -> Iterator[str]:

@@ -183,10 +183,10 @@ def difference_lines(comparison: Pair, verdict: Verdict) -> Iterator[str]:
     for at, reason in of_profiles:
         side, before = comparison.sides[at], f"{comparison.title(at)}: " * (len(of_profiles) > 1)
         yield from (before + line for line in reasons.describe_reason(reason, side.data, verdict.call, side.origins))
-    for _, giver in found:
-        if isinstance(giver, listing.Giver):
-            name = giver.filter.name if not of_profiles else ""
-            yield from giver.last_tests(verdict.call, comparison.table, name)
+    for at, path in found:
+        if isinstance(path, listing.Path):
+            title = path.title(comparison.sides[at]) if of_profiles else path.filter.name
+            yield from path.last_tests(verdict.call, comparison.table, title)
 
 
 def _difference_json(comparison: Pair, verdict: Verdict) -> dict[str, object]:

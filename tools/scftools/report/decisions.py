@@ -153,7 +153,7 @@ def record_words(options: Any) -> list[str] | None:
     return record_queries[0].words() if len(record_queries) == 1 else None
 
 
-def of_givers(filters: Sequence[Filter], givers: Sequence[listing.Giver]) -> Iterator[str]:
+def of_givers(filters: Sequence[Filter], givers: Sequence[listing.Path]) -> Iterator[str]:
     """Which filter of several gives the answer."""
     names = [giver.filter.name for giver in givers]
     if len(filters) < 2:
@@ -186,29 +186,29 @@ def _reply(status: int, call: Call | None, decided: Decision | Reason, table: Ta
 def stack_decisions(filters: Sequence[Filter], query: Query, table: Table) -> Block:
     """The reply of a stack, with the filter that gives the answer, and the path through it."""
     status, decision, paths = listing.run_stack(filters, query.words())
-    givers, fault = listing.givers(filters, paths, decision.answer), decision.fault
-    giver = listing.to_show(givers)
+    givers, fault = listing.givers(paths, decision.answer), decision.fault
+    shown = listing.to_show(givers)
 
     def given() -> Iterator[str]:
         yield from refusals.stack_refusals(filters, fault)
         yield from of_givers(filters, givers)
-        if giver is not None:
-            yield f"the path in {giver.describe()}: {giver.path.describe()}"
+        if shown is not None:
+            yield f"the path in {shown.title(filters)}: {shown.describe()}"
 
     def members() -> dict[str, object]:
         files = refusals.faulty_filters(filters, fault) if fault else [giver.filter.name for giver in givers]
-        return {**({"filters": files} if len(filters) > 1 and (giver or fault) else {}),
-                **({"path": giver.as_json()} if giver else {})}
+        return {**({"filters": files} if len(filters) > 1 and (shown or fault) else {}),
+                **({"path": shown.as_json()} if shown else {})}
 
     return _reply(status, query.call, decision, table, given(), members)
 
 
 def of_run(bpf_filter: Filter, query: Query, table: Table, with_path: bool) -> Block:
     """The reply of one filter, with the number of instructions that run, and on request their path."""
-    path = listing.path_of(bpf_filter.data, query.words(), with_path)
+    path = listing.path_of(bpf_filter, query.words(), with_path)
     members: dict[str, object] = {} if path.decision.steps is None else {"steps": path.decision.steps}
     if path.indexes:
-        members["path"] = listing.Giver(bpf_filter, True, path).as_json()
+        members["path"] = path.as_json()
     return _reply(path.status, query.call, path.decision, table, members=lambda: members, lines=path.lines)
 
 

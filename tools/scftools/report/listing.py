@@ -175,116 +175,99 @@ def listing_lines(listed: Iterable[tuple[int, tuple[str, str | None]]], count: i
 class Path:
     """A filter's answer to a syscall, and the indexes of the instructions that run; none after a fault."""
 
+    filter: Filter
     status: int
     lines: tuple[str, ...]
     decision: verdicts.Decision
     indexes: tuple[int, ...] = ()
+
+    @classmethod
+    def read(cls, bpf_filter: Filter, status: int, lines: Sequence[str]) -> Path:
+        """The answer of a run in its first line, and the path in the second one, if there is one."""
+        word, *indexes = "".join(lines[1:2]).split(" ")
+        return cls(bpf_filter, status, tuple(lines), verdicts.decision("".join(lines[:1])),
+                   tuple(map(int, indexes)) if word == "path" else ())
+
+    def title(self, filters: Sequence[Filter]) -> str:
+        """What the filter is called, which is one of these."""
+        return "the filter" if len(filters) == 1 else self.filter.name
 
     def describe(self) -> str:
         """The indexes; three or more consecutive ones as a range."""
         return " ".join(f"{first}-{last}" if last - first > 1 else " ".join(map(str, range(first, last + 1)))
                         for first, last in output.runs(self.indexes))
 
-
-def _path(status: int, lines: Sequence[str]) -> Path:
-    """The answer of a run in its first line, and the path in the second one, if there is one."""
-    word, *indexes = "".join(lines[1:2]).split(" ")
-    return Path(status, tuple(lines), verdicts.decision("".join(lines[:1])),
-                tuple(map(int, indexes)) if word == "path" else ())
-
-
-def path_of(data: bytes, words: Sequence[str], with_path: bool = True) -> Path:
-    """A filter's answer to the record that scf's options give, and on request the path to it."""
-    done = client.run_scf(["run", *["--path"] * with_path, *words], data)
-    return _path(done.status, done.lines)
-
-
-@dataclass(frozen=True)
-class Giver:
-    """A filter that gives its stack's answer, with its path, and whether it is the only filter."""
-
-    filter: Filter
-    is_alone: bool
-    path: Path
-
-    def describe(self) -> str:
-        return "the filter" if self.is_alone else self.filter.name
-
-    def last_tests(self, call: Call, table: Table, name: str = "") -> Iterator[str]:
-        """The last tests on its path, with a line before them that calls the filter so."""
-        before, lines = last_tests(self.filter.data, self.path, call, table)
-        yield (f"the last tests on the path in {name or self.describe()}"
-               + (f", after {before} others:" if before else ":"))
-        yield from lines
-
     def as_json(self) -> dict[str, object]:
-        return {"filter": self.filter.name, "indexes": list(self.path.indexes)}
+        return {"filter": self.filter.name, "indexes": list(self.indexes)}
+
+    def last_tests(self, call: Call, table: Table, title: str) -> Iterator[str]:
+        """The last tests and the end, as lines of the listing, each with the value loaded and the branch taken; and
+        before them a line that gives the filter a title."""
+        insns, tests, loaded = instructions(self.filter.data), [], ""
+        halves = (half for value in (call.pointer or 0, *call.arguments) for half in (value & 0xFFFFFFFF, value >> 32))
+        # the 32-bit words of the record, in order (struct seccomp_data in linux/seccomp.h)
+        words = [call.number, call.architecture, *halves]
+        for at, index in enumerate(self.indexes):
+            insn = insns[index]
+            if insn.is_test:
+                tests.append((index, f"; {loaded}went to {self.indexes[at + 1]}"))
+            elif insn.kind == RETURNS:
+                tests.append((index, ""))
+            elif insn.word is not None:
+                loaded = f"loaded {words[insn.word]:#x}, "
+            elif insn.kind == ALU and loaded:
+                loaded = loaded.partition(",")[0] + ", computed with it, "
+            elif insn.changes_a:
+                loaded = ""
+        shown, means = tests[-MOST_TESTS:], meanings(self.filter.data, table)
+        lines = listing_lines(((index, (insns[index].text, means[index])) for index, _ in shown), len(insns))
+        before = f", after {len(tests) - len(shown)} others" if len(tests) > len(shown) else ""
+        yield f"the last tests on the path in {title}{before}:"
+        yield from (line + way for line, (_, way) in zip(lines, shown))
 
 
-def givers(filters: Sequence[Filter], paths: Sequence[Path], answer: Answer | None) -> list[Giver]:
-    """The filters of a stack, oldest first, that give this answer on their paths; if it is the stack's, the kernel
-    takes it from the last of them.
+def path_of(bpf_filter: Filter, words: Sequence[str], with_path: bool = True) -> Path:
+    """A filter's answer to the record that scf's options give, and on request the path to it."""
+    done = client.run_scf(["run", *["--path"] * with_path, *words], bpf_filter.data)
+    return Path.read(bpf_filter, done.status, done.lines)
+
+
+def givers(paths: Sequence[Path], answer: Answer | None) -> list[Path]:
+    """The paths of a stack's filters, oldest first, that give this answer; if it is the stack's, the kernel takes it
+    from the last of them.
 
     It runs the newest first, and of equal actions keeps the one that it has (seccomp_run_filters in kernel/seccomp.c).
     """
-    return [Giver(bpf_filter, len(filters) == 1, path) for bpf_filter, path in zip(filters, paths)
-            if path.indexes and path.decision.answer == answer]
+    return [path for path in paths if path.indexes and path.decision.answer == answer]
 
 
 def run_stack(filters: Sequence[Filter], words: Sequence[str]) -> tuple[int, verdicts.Decision, list[Path]]:
     """scf's status, what a stack answers to the record that scf's options give, and the path of each of its filters,
     oldest first."""
-    bundle = bundles.stack_bundle([bpf_filter.data for bpf_filter in filters])
-    done = client.run_scf(["decide", *words, "--path"], bundle)
+    done = client.run_scf(["decide", *words, "--path"], bundles.stack_bundle([each.data for each in filters]))
     runs = done.lines[1:]
-    return done.status, verdicts.decision(done.text), [_path(done.status, runs[at:at + 2])
-                                                       for at in range(0, len(runs), 2)]
+    return done.status, verdicts.decision(done.text), [Path.read(bpf_filter, done.status, runs[2 * at:2 * at + 2])
+                                                       for at, bpf_filter in enumerate(filters)]
 
 
-def deciding_filters(stacks: Sequence[tuple[Sequence[Filter], Answer]], words: Sequence[str]) -> list[list[Giver]]:
-    """The filters of some stacks, oldest first, that give these answers: by one start of scf, if all of them fit into
-    a stack."""
+def deciding_filters(stacks: Sequence[tuple[Sequence[Filter], Answer]], words: Sequence[str]) -> list[list[Path]]:
+    """The paths of some stacks' filters, oldest first, that give these answers: by one start of scf, if all of them fit
+    into a stack."""
     _, decision, run_paths = run_stack([bpf_filter for filters, _ in stacks for bpf_filter in filters], words)
     if decision.answer is None and len(stacks) > 1:
         return [found for each in stacks for found in deciding_filters([each], words)]
     paths = iter(run_paths)
-    return [givers(filters, [*itertools.islice(paths, len(filters))], answer) for filters, answer in stacks]
+    return [givers([*itertools.islice(paths, len(filters))], answer) for filters, answer in stacks]
 
 
-def to_show(givers: Sequence[Giver]) -> Giver | None:
-    """The filter whose path is shown, of several that give the answer: the newest, whose answer the kernel takes.
+def to_show(givers: Sequence[Path]) -> Path | None:
+    """The path that is shown, of several filters that give the answer: the newest's, whose answer the kernel takes.
 
     The kernel begins with ALLOW and takes it from no filter: then it is the one that runs the most instructions, since
     others may not even load the syscall number.
     """
     if not givers:
         return None
-    answer = givers[-1].path.decision.answer
+    answer = givers[-1].decision.answer
     is_allowed = answer is not None and answer.action == "ALLOW"
-    return max(reversed(givers), key=lambda giver: len(giver.path.indexes)) if is_allowed else givers[-1]
-
-
-def last_tests(data: bytes, path: Path, call: Call, table: Table) -> tuple[int, list[str]]:
-    """The last tests on a path and its end, as lines of the listing, each with the value loaded and the branch taken;
-    and the number of tests before them."""
-    insns, tests, loaded = instructions(data), [], ""
-    halves = (half for value in (call.pointer or 0, *call.arguments) for half in (value & 0xFFFFFFFF, value >> 32))
-    # the 32-bit words of the record, in order (struct seccomp_data in linux/seccomp.h)
-    words = [call.number, call.architecture, *halves]
-    for at, index in enumerate(path.indexes):
-        insn = insns[index]
-        if insn.is_test:
-            tests.append((index, f"; {loaded}went to {path.indexes[at + 1]}"))
-        elif insn.kind == RETURNS:
-            tests.append((index, ""))
-        elif insn.word is not None:
-            loaded = f"loaded {words[insn.word]:#x}, "
-        elif insn.kind == ALU and loaded:
-            loaded = loaded.partition(",")[0] + ", computed with it, "
-        elif insn.changes_a:
-            loaded = ""
-    # (no jump goes backwards, so what stands behind the path tells nothing about it)
-    facts, shown = known_facts(insns[:path.indexes[-1] + 1]), tests[-MOST_TESTS:]
-    lines = listing_lines(((index, (insns[index].text, _meaning(index, insns[index], facts[index], table, len(insns))))
-                           for index, _ in shown), len(insns))
-    return len(tests) - len(shown), [line + way for line, (_, way) in zip(lines, shown)]
+    return max(reversed(givers), key=lambda path: len(path.indexes)) if is_allowed else givers[-1]

@@ -10,6 +10,7 @@ from support.common import (ALLOW, CORE, EPERM, I386, KILL_PROCESS, X86_64, Case
                             load, ret)
 from scftools.model import tables
 from scftools.model.calls import Call
+from scftools.forms.filters import Filter
 from scftools.report import flow_graph, listing
 from support.stand_in import StandIn
 
@@ -233,7 +234,8 @@ class Graph(Case):
         for data in (b"".join(tests), filter_of(range(0, 40, 3)), load(0) + chain + ret(ALLOW)):
             graph = flow_graph.Graph(data)
             for number, first in itertools.product(range(12), (0, 1, 3, 2**32 + 3)):
-                places = listing.path_of(data, Call(number, arguments=(first, *[0] * 5)).words()).indexes
+                call = Call(number, arguments=(first, *[0] * 5))
+                places = listing.path_of(Filter("", data), call.words()).indexes
                 way = flow_graph.Drawing(graph, [""] * (len(data) // 8), tables.read_table(None), places).way
                 self.assertEqual(way[0], graph.behind_jumps(0))
                 self.assertEqual(way[-1], graph.behind_jumps(places[-1]))

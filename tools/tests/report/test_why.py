@@ -16,6 +16,7 @@ import kernel_programs
 from scftools.model import tables
 from scftools.model.calls import Call
 from scftools.ask import reasons
+from scftools.forms.filters import Filter
 from scftools.report import listing
 
 X32, WORD = 0x40000000, (1 << 32) - 1
@@ -54,7 +55,7 @@ class Path(Case):
 
     def holds(self, data, call):
         machine = StandIn()
-        path, expected = listing.path_of(data, call.words()), machine.path(data, call)
+        path, expected = listing.path_of(Filter("", data), call.words()), machine.path(data, call)
         self.assertEqual(path.status, 0)
         self.assertEqual((list(path.indexes), path.decision.steps), (expected, len(expected)))
         self.assertEqual(path.decision.line, f"{machine.run(data, call)} steps {len(expected)}")
@@ -82,10 +83,10 @@ class Path(Case):
         self.assertEqual(self.holds(load(0) + jeq(9, 0, 0) * 4094 + ret(ALLOW), call), list(range(4096)))
         jumps = load(0) + jeq(7, 1, 0) * 4093 + ret(EPERM) + ret(ALLOW)
         self.assertEqual(self.holds(jumps, call), [0, *range(1, 4096, 2)])
-        self.assertEqual(listing.path_of(jumps, call.words()).describe()[:12], "0 1 3 5 7 9 ")
+        self.assertEqual(listing.path_of(Filter("", jumps), call.words()).describe()[:12], "0 1 3 5 7 9 ")
 
     def test_a_fault_has_no_path(self):
-        path = listing.path_of(jeq(0, 9, 0) + ret(ALLOW), Call(0).words())
+        path = listing.path_of(Filter("", jeq(0, 9, 0) + ret(ALLOW)), Call(0).words())
         self.assertEqual((path.status, path.indexes, path.decision.fault.kind), (2, (), "Jump"))
 
 
@@ -299,8 +300,9 @@ class Behind(Case):
                 + insn(0x00, 5) + jeq(5, 0, 2) + insn(0x87, 0) + insn(0x25, 9, 0, 0) + ret(0x7FFC0000))
         self.assertEqual(StandIn().check(data), "accepted 17")
         call = Call(41, arguments=(16, 0x37 << 32, 0, 0, 0, 0))
-        found = listing.last_tests(data, listing.path_of(data, call.words()), call, tables.read_table(None))
-        self.assertEqual((found[0], [re.sub(r"^ *([0-9]+)  .*?// ", r"\1 ", line) for line in found[1]]), (0, [
+        path = listing.path_of(Filter("", data), call.words())
+        header, *lines = path.last_tests(call, tables.read_table(None), "it")
+        self.assertEqual((header[-6:], [re.sub(r"^ *([0-9]+)  .*?// ", r"\1 ", line) for line in lines]), ("in it:", [
             "1 x86-64: to 3, else 2; loaded 0xc000003e, went to 3", "4 x32: to 5, else 6; loaded 0x29, went to 6",
             "6 socket: to 7, else 16; loaded 0x29, went to 7", "8 to 9, else 16; loaded 0x10, went to 9",
             "11 to 12, else 16; loaded 0x37, computed with it, went to 12", "13 to 14, else 16; went to 14",
@@ -308,11 +310,12 @@ class Behind(Case):
         random_of = random.Random(9)
         for _ in range(20):
             data, call = random_filter(random_of), random_call(random_of)
-            path, expected = listing.path_of(data, call.words()), StandIn().path(data, call)
-            before, lines = listing.last_tests(data, path, call, tables.read_table(None))
+            path, expected = listing.path_of(Filter("", data), call.words()), StandIn().path(data, call)
+            header, *lines = path.last_tests(call, tables.read_table(None), "it")
             tests = [at for at in expected if data[8 * at] & 7 in (5, 6) and data[8 * at] != 5]
             self.assertEqual([int(line.split()[0]) for line in lines], tests[-12:])
-            self.assertEqual(before, max(len(tests) - 12, 0))
+            before = f", after {len(tests) - 12} others" if len(tests) > 12 else ""
+            self.assertEqual(header, f"the last tests on the path in it{before}:")
             for line in lines[:-1]:
                 at = expected.index(int(line.split()[0]))
                 self.assertTrue(line.endswith(f"went to {expected[at + 1]}"), line)
