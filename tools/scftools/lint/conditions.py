@@ -63,10 +63,9 @@ def _of_argument(kind: str, entry: Entry, place: int, judged: Tables) -> Iterato
         if on:
             named.setdefault(Owners.of(on, among, judged), []).append(name)
     for owners, names in named.items():
-        text = sentence.format(names=listed(names, "and"), have="has" if len(names) == 1 else "have", index=index,
+        text = sentence.format(names=listed(names), have="has" if len(names) == 1 else "have", index=index,
                                where=owners.where, value=value, low=value & LOW_HALF)
-        yield Finding(kind, f"entry {entry.place}, condition {place}: {text}",
-                      {"entry": entry.place, "condition": place, "names": names, **owners.as_json()})
+        yield Finding.at((entry.place, place), kind, text, condition=place, names=names, **owners.as_json())
 
 
 def of_conditions(entries: Sequence[Entry], judged: Tables) -> Iterator[Finding]:
@@ -75,14 +74,13 @@ def of_conditions(entries: Sequence[Entry], judged: Tables) -> Iterator[Finding]
         on = {oci for name in entry.names for oci in judged.numbers_of(name)} or judged.of
         greatest = max(JUDGED[oci].greatest for oci in on)
         for place, condition in enumerate(entry.conditions):
-            where, more = f"entry {entry.place}, condition {place}", {"entry": entry.place, "condition": place}
-            op, value, two = condition.op, condition.value, condition.two
+            at, op, value, two = (entry.place, place), condition.op, condition.value, condition.two
             if _always_holds(condition, greatest):
                 swapped = "; value is the mask, and valueTwo what is compared with: they may be swapped" * bool(two)
-                yield Finding("always-met", f"{where}: {op} {value} holds for every value{swapped}", more)
+                yield Finding.at(at, "always-met", f"{op} {value} holds for every value{swapped}", condition=place)
             elif op == MASKED and two & ~value:
-                yield Finding("odd-mask", f"{where}: valueTwo {two:#x} has bits that the mask {value:#x} lacks, and "
-                              "these aren't compared", more)
+                yield Finding.at(at, "odd-mask", f"valueTwo {two:#x} has bits that the mask {value:#x} lacks, and "
+                                 "these aren't compared", condition=place)
             yield from _of_argument("no-such-argument", entry, place, judged)
             if not _is_null_test(condition, greatest):
                 yield from _of_argument("pointer-argument", entry, place, judged)
@@ -102,8 +100,8 @@ def of_unions(judged: Tables, entries: Sequence[Entry]) -> Iterator[Finding]:
         if len(its) > 1 and all(entry.conditions for entry in its) and \
                 all(met.are_all(its, architecture) for architecture in judged.numbers_of(name)):
             places = [entry.place for entry in its]
-            yield Finding("always-met", f"entries {listed(list(map(str, places)), 'and')}: every call of {name} meets "
-                          "one of them, so one entry is enough", {"entries": places, "name": name})
+            yield Finding("always-met", f"entries {listed(places)}: every call of {name} meets one of them, so one "
+                          "entry is enough", entries=places, name=name)
 
 
 def _evading(sets: Sets, region_list: Sequence[Region], index: int) -> \
@@ -148,7 +146,7 @@ def _evasions(watch: Watch, entries: Sequence[Entry]) -> Iterator[tuple[str, str
             denied, lows, allowed, highs = pairs[first]
             low, high, others = hex(lows[first]), hex(highs[first]), sorted(indices - {first})
             beside = "".join(f", beside {lows[at]:#x} as argument {at}" for at in others)
-            also = f"; the same of {listed([f'argument {at}' for at in more], 'and')}" if more else ""
+            also = f"; the same of {listed(f'argument {at}' for at in more)}" if more else ""
             yield (name, f"is denied with {low} as argument {first}{beside} ({denied.answer}), and allowed with {high} "
                    f"{allowed.by}: the kernel reads only the lower 32 bits, and executes the same syscall for both"
                    f"{also}",
@@ -166,5 +164,4 @@ def of_denials(judged: Tables, watches: Mapping[str, Watch], entries: Sequence[E
     for (name, said), (more, on) in evaded.items():
         numbers = judged.numbers_of(name)
         owners = Owners.of(on, [architecture for architecture in whole if architecture in numbers], judged)
-        yield Finding("high-half", f"{owners.named(name, numbers[owners.first])} {said}{owners.also}",
-                      {**more, **owners.as_json()})
+        yield owners.finding("high-half", f"{owners.named(name, numbers[owners.first])} {said}", **more)

@@ -149,13 +149,13 @@ class Search:
     def _finding(self, entry: Entry, names: Sequence[str]) -> Finding:
         why, others = self._why(entry, names)
         is_whole = len(names) == len(entry.names) and not entry.has_others
-        shown, are_several = listed(names, "and"), not is_whole and len(names) > 1
+        shown, are_several = listed(names), not is_whole and len(names) > 1
         text = WHYS[why].format(
             what="it" if is_whole else f"its name{'s' * are_several} {shown}", is_="are" if are_several else "is",
-            syscalls="its syscalls" if is_whole else shown, others=listed(list(map(str, others)), "and"))
+            syscalls="its syscalls" if is_whole else shown, others=listed(others))
         by = {"by": others[0]} if why == ONE else {"why": why, "others": list(others)}
-        return Finding("covered" if why == ONE else "without-effect", f"entry {entry.place}: {text}",
-                       {"entry": entry.place, "names": list(names), "is_whole": is_whole, **by})
+        return Finding.at([entry.place], "covered" if why == ONE else "without-effect", text, names=list(names),
+                          is_whole=is_whole, **by)
 
     def run(self) -> Iterator[Finding]:
         """What is without effect, all together, by entry: whole entries are left out first, then names of others, from
@@ -176,10 +176,10 @@ class Search:
             as_read = self._verdict().word
             for place, name in undecided if as_read == SAME else ():
                 yield Finding("without-effect", f"entry {place}, {name}: undecided whether it has an effect: {word}",
-                              {"entry": place, "names": [name], "verdict": word}, False)
+                              False, entry=place, names=[name], verdict=word)
             if as_read != SAME:
-                yield Finding("without-effect", f"undecided which entries have an effect: {as_read}",
-                              {"verdict": as_read}, False)
+                yield Finding("without-effect", f"undecided which entries have an effect: {as_read}", False,
+                              verdict=as_read)
         for entry in self.entries.values():
             names = [name for name in entry.names if (entry.place, name) in self.gone]
             if names:
@@ -220,8 +220,7 @@ def conflicts(judged: Tables, default: Answer, entries: Sequence[Entry]) -> Iter
             owners, number = Owners.of(where, on, judged), judged.numbers_of(name)[where[0]]
             call = Call(JUDGED[where[0]].first + number, JUDGED[where[0]].number,
                         arguments=met.of(where[0]).least(both[where[0]]))
-            yield Finding("conflict", f"entries {first.place} and {second.place} answer {owners.named(name, number)} "
-                          f"by {first.answer} and by {second.answer}: arguments "
-                          f"{' '.join(map(hex, call.arguments))} meet both{owners.also}",
-                          {"first": first.place, "second": second.place, "name": name,
-                           "call": call.as_json(judged.native), **owners.as_json()})
+            text = (f"entries {first.place} and {second.place} answer {owners.named(name, number)} by {first.answer} "
+                    f"and by {second.answer}: arguments {' '.join(map(hex, call.arguments))} meet both")
+            yield owners.finding("conflict", text, first=first.place, second=second.place, name=name,
+                                 call=call.as_json(judged.native))

@@ -5,25 +5,19 @@ program knows, and an action one that waits for a supervisor.
 """
 from __future__ import annotations
 
-from collections.abc import Iterator, Sequence
+from collections.abc import Iterable, Iterator
 
 from ..base import output
+from ..base.values import Any
 from ..model import profiles, tables
 from ..model.answers import ERRNOS, MAX_ERRNO
 from ..model.architectures import NATIVE, NUMBERS, PREFIX, X32
 from ..model.entries import HOLDS, MASKED, Object
 from ..model.profiles import ALLOWING, FLAGS, OCI_ACTIONS, objects_in, parts_of
-from .findings import MOST, Finding, listed
-from .kinds import ERROR
+from .findings import ERROR, MOST, PLACES, Finding, listed
 
-# The names of the OCI runtime specification (config-linux, seccomp), which are libseccomp's.
-OCI_ARCHITECTURES = tuple(NUMBERS)
-# Other names for these architectures.
+# Other names for the architectures of the OCI specification.
 ALIASES = {"AMD64": "X86_64", "X86-64": "X86_64", "X64": "X86_64", "ARM64": "AARCH64"}
-
-
-# How findings call a profile, an entry and a condition.
-PLACES = ("the profile", "entry {}", "entry {}, condition {}")
 
 
 def of_names(top: Object, judged: tables.Tables) -> Iterator[Finding]:
@@ -36,35 +30,35 @@ def of_names(top: Object, judged: tables.Tables) -> Iterator[Finding]:
     # (those come first, since of too many the last aren't listed)
     for name, near in sorted(skipped.unknown, key=lambda unknown: slips[unknown[0]] is None):
         near = slips[name] or near
-        nearest = f"; the nearest name in the table is {near}" if near else ""
-        yield Finding("unknown-name", f"entry {places[name]}: no known syscall is named {output.cut(name)}{nearest}",
-                      {"entry": places[name], "name": name, "nearest": near}, graver=ERROR if slips[name] else None)
+        text = f"no known syscall is named {output.cut(name)}{_nearest(near, ' name in the table')}"
+        yield Finding.at([places[name]], "unknown-name", text, graver=slips[name] and ERROR, name=name, nearest=near)
     for name in skipped.left_out:
-        yield Finding("left-out-name", f"entry {places[name]}: {name} is a syscall of x86-64 that this table "
-                      "leaves out", {"entry": places[name], "name": name})
+        text = f"{name} is a syscall of x86-64 that this table leaves out"
+        yield Finding.at([places[name]], "left-out-name", text, name=name)
     if skipped.elsewhere:
-        yield Finding("other-architectures", f"names that only other architectures have: {len(skipped.elsewhere)}",
-                      {"count": len(skipped.elsewhere), "names": skipped.elsewhere})
+        count = len(skipped.elsewhere)
+        yield Finding("other-architectures", f"names that only other architectures have: {count}", count=count,
+                      names=skipped.elsewhere)
     for place, entry in objects_in(top, "syscalls"):
         seen: set[str] = set()
         twice = list(dict.fromkeys(name for name in entry["names"] if name in seen or seen.add(name)))
         if twice:
-            yield Finding("repeated-name", f"entry {place} has names more than once: {listed(twice)}",
-                          {"entry": place, "names": twice})
+            yield Finding("repeated-name", f"entry {place} has names more than once: {listed(twice, '')}", entry=place,
+                          names=twice)
 
 
-def _near(name: str, prefix: str, words: Sequence[str], count: int) -> str | None:
-    """The word most like a name behind their common prefix, if one is much like it; none for a name that comes after so
-    many."""
-    if count >= tables.MOST_LISTED or len(name) > tables.LONGEST_NAME:
-        return None
-    last = name.upper().removeprefix(prefix)
-    likely = tables.most_like(ALIASES.get(last, last), [word[len(prefix):] for word in words])
-    return prefix + likely if likely else None
+def _nearest(near: str | None, what: str = "") -> str:
+    return f"; the nearest{what} is {near}" if near else ""
 
 
-def _nearest(near: str | None) -> str:
-    return f"; the nearest is {near}" if near else ""
+def _unknown(kind: str, text: str, name: str, prefix: str, words: Iterable[str], count: int, **more: Any) -> Finding:
+    """A finding on a name that isn't one of some words, with the one most like it behind their common prefix, if one is
+    much like it; none for a name that comes after so many."""
+    last, near = name.upper().removeprefix(prefix), None
+    if count < tables.MOST_LISTED and len(name) <= tables.LONGEST_NAME:
+        near = tables.most_like(ALIASES.get(last, last), [word[len(prefix):] for word in words])
+    near = near and prefix + near
+    return Finding(kind, text + _nearest(near), **more, name=name, nearest=near)
 
 
 # What a profile says by words: the member, what such a word is, how all begin, and all.
@@ -78,9 +72,9 @@ def of_words(top: Object) -> Iterator[Finding]:
              for place, value, known in parts_of(top) for member, kind, prefix, words in WORDS
              if member in known and isinstance(value.get(member), str) and value[member] not in words]
     for at, (place, kind, prefix, words, word) in enumerate(wrong):
-        where, near = PLACES[len(place)].format(*place) if place else "the default", _near(word, prefix, words, at)
-        yield Finding(f"unknown-{kind}", f"{where}: {output.cut(word)} is no {kind}{_nearest(near)}",
-                      {"where": where, "name": word, "nearest": near})
+        where = PLACES[len(place)].format(*place) if place else "the default"
+        text = f"{where}: {output.cut(word)} is no {kind}"
+        yield _unknown(f"unknown-{kind}", text, word, prefix, words, at, where=where)
 
 
 def of_flags(top: Object) -> Iterator[Finding]:
@@ -88,27 +82,24 @@ def of_flags(top: Object) -> Iterator[Finding]:
     given = top.get("flags")
     flags = [flag for flag in given if isinstance(flag, str)] if isinstance(given, list) else []
     for at, name in enumerate(flag for flag in dict.fromkeys(flags) if flag not in FLAGS):
-        near = _near(name, "SECCOMP_FILTER_FLAG_", FLAGS, at)
-        yield Finding("unknown-flag", f"flags: the OCI specification has no {output.cut(name)}{_nearest(near)}",
-                      {"name": name, "nearest": near})
+        text = f"flags: the OCI specification has no {output.cut(name)}"
+        yield _unknown("unknown-flag", text, name, "SECCOMP_FILTER_FLAG_", FLAGS, at)
 
 
 def of_architecture_names(top: Object) -> Iterator[Finding]:
-    """Architectures that the OCI specification doesn't have, and a list with x86-64 and without x32, which matters
-    unless the default denies."""
+    """Architectures that the OCI specification (config-linux, seccomp) doesn't have, and a list with x86-64 and without
+    x32, which matters unless the default denies."""
     architectures = top.get("architectures", [])
-    unknown = (name for name in dict.fromkeys(architectures) if name not in OCI_ARCHITECTURES)
-    for at, name in enumerate(unknown):
-        near = _near(name, PREFIX, OCI_ARCHITECTURES, at)
-        yield Finding("unknown-architecture", f"architectures: the OCI specification has no {output.cut(name)}, and "
-                      f"runc and crun refuse what they don't know{_nearest(near)}", {"name": name, "nearest": near})
+    for at, name in enumerate(name for name in dict.fromkeys(architectures) if name not in NUMBERS):
+        text = (f"architectures: the OCI specification has no {output.cut(name)}, and runc and crun refuse what they "
+                "don't know")
+        yield _unknown("unknown-architecture", text, name, PREFIX, NUMBERS, at)
     default = top["defaultAction"]
     if NATIVE in architectures and X32 not in architectures and default in (*ALLOWING, *SUPERVISORS):
-        then = f"the default, {default}, allows them all" if default in ALLOWING else \
-            f"the default, {default}, answers them all"
         yield Finding("x32", f"architectures has no {X32}: x32 syscalls are those of x86-64 with 0x40000000 added. "
-                      f"Filters of scf and of libseccomp deny them; in a filter that doesn't test for them {then}",
-                      {"architectures": architectures})
+                      "Filters of scf and of libseccomp deny them; in a filter that doesn't test for them the default, "
+                      f"{default}, {'allows' if default in ALLOWING else 'answers'} them all",
+                      architectures=architectures)
 
 
 # What only engines read, in their own profiles (Seccomp and Syscall in containers-common's pkg/seccomp/types.go,
@@ -124,36 +115,34 @@ def of_members(top: Object) -> Iterator[Finding]:
     nearest one that is, and those that are repeated."""
     searches = iter(range(MOST))
     for place, value, known in parts_of(top):
-        where, at = PLACES[len(place)].format(*place), {"entry": place[0]} if place else {}
         read_members = [member for member in known if member not in ENGINE_MEMBERS]
         folded = set(map(profiles.folded, known))
         for name in value:
             if name in read_members or name == "comment":
                 continue
             if name in known:
-                yield Finding("engine-member", f"{where}: {ENGINE_MEMBERS[name]}: resolve-profile does so",
-                              {**at, "member": name})
+                text = f"{ENGINE_MEMBERS[name]}: resolve-profile does so"
+                yield Finding.at(place, "engine-member", text, member=name)
             elif profiles.folded(name) not in folded:
                 near = None if next(searches, None) is None else tables.nearest_member(name, read_members)
-                nearest = f"; the nearest that is read is {near}" if near else ""
-                yield Finding("unread-member", f"{where}: nothing reads {output.cut(name)}{nearest}",
-                              {**at, "member": name, "nearest": near})
+                text = f"nothing reads {output.cut(name)}{_nearest(near, ' that is read')}"
+                yield Finding.at(place, "unread-member", text, member=name, nearest=near)
         for name in value.repeated:
             keeps = isinstance(known.get(name), list) and isinstance(known[name][0], dict)
             then = "; programs in Go keep members of the earlier one's entries" if keeps else ""
-            yield Finding("repeated-member", f"{where}: {output.cut(name)} is repeated, and the last one is taken"
-                          f"{then}", {**at, "member": name})
+            text = f"{output.cut(name)} is repeated, and the last one is taken{then}"
+            yield Finding.at(place, "repeated-member", text, member=name)
         if known is profiles.ARGUMENT and value.get("valueTwo") and value["op"] != MASKED:
-            yield Finding("unread-member", f"{where}: nothing reads valueTwo beside {value['op']}",
-                          {**at, "member": "valueTwo", "nearest": None})
+            yield Finding.at(place, "unread-member", f"nothing reads valueTwo beside {value['op']}", member="valueTwo",
+                             nearest=None)
 
 
 def misread(data: bytes) -> Iterator[Finding]:
     """Members that Go programs (runc, Docker, podman) read as others, and scf and crun don't."""
     for member in profiles.misread_members(data):
         if member.name != member.read_as:
-            yield Finding("folded-member", f"{member.describe()}; scf and crun don't",
-                          {"where": member.where, "member": member.name, "read_as": member.read_as})
+            yield Finding("folded-member", f"{member.describe()}; scf and crun don't", where=member.where,
+                          member=member.name, read_as=member.read_as)
 
 
 # The errnos that the kernel uses internally (include/linux/errno.h).
@@ -184,7 +173,7 @@ def of_answers(top: Object) -> Iterator[Finding]:
     supervisor or a tracer."""
     default = top["defaultAction"]
     if default in ALLOWING:
-        yield Finding("default-allows", f"{default}: a syscall that no entry names is allowed", {"action": default})
+        yield Finding("default-allows", f"{default}: a syscall that no entry names is allowed", action=default)
     # of the default and each entry its name, its members in JSON, its action, and its errno's name and number
     answers = [("the default", {}, default, "defaultErrnoRet", top.get("defaultErrnoRet")),
                *((f"entry {place}", {"entry": place}, entry["action"], "errnoRet", entry.get("errnoRet"))
@@ -192,9 +181,9 @@ def of_answers(top: Object) -> Iterator[Finding]:
     for where, at, action, member, number in answers:
         why = _why_odd(number) if action == "SCMP_ACT_ERRNO" and isinstance(number, int) else None
         if why:
-            yield Finding("odd-errno", f"{where}: {member} {number}: {why}", {**at, "errno": number})
+            yield Finding("odd-errno", f"{where}: {member} {number}: {why}", **at, errno=number)
     for where, at, action, _, _ in answers:
         if action in SUPERVISORS and not (action == "SCMP_ACT_NOTIFY" and top.get("listenerPath")):
             lacking = ", and the profile has no listenerPath" if action == "SCMP_ACT_NOTIFY" else ""
             yield Finding("no-supervisor", f"{where}: {action} needs {SUPERVISORS[action]}{lacking}: without one the "
-                          "syscall fails with ENOSYS", {**at, "action": action})
+                          "syscall fails with ENOSYS", **at, action=action)

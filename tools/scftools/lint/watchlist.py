@@ -9,7 +9,7 @@ from __future__ import annotations
 import functools
 from collections.abc import Iterator, Mapping, Sequence
 
-from ..base.values import dataclass
+from ..base.values import Any, dataclass
 from ..model.answers import ENOSYS, Answer
 from ..model.architectures import NATIVE, Architecture, machine_architecture
 from ..model.argument_sets import Sets, Steps
@@ -132,17 +132,16 @@ class Watch:
 def _allowed(name: str, danger: Dangerous, watch: Watch, owners: Owners) -> Finding:
     """A dangerous syscall that is allowed, always or with some arguments, or of which that is undecided."""
     number, how, allowed = watch.table.number_of(name) or 0, watch.how(name), watch.allowed(name)
-    more: dict[str, object] = {"name": name, "number": number, "reason": danger.reason}
+    more: dict[str, Any] = {"name": name, "number": number, "reason": danger.reason}
     if allowed is None:
-        return Finding("dangerous-call", f"undecided whether {owners.named(name, number)} is allowed: {how}"
-                       f"{owners.also}", {**more, **owners.as_json()}, False)
+        return owners.finding("dangerous-call", f"undecided whether {owners.named(name, number)} is allowed: {how}",
+                              is_decided=False, **more)
     region, arguments = allowed
     shown = list(map(hex, arguments))
     some = "" if how == ALWAYS else f" with some arguments, such as {' '.join(shown)},"
     called = owners.named(" or ".join(watch.table.names_of(number)), number)
-    return Finding("dangerous-call", f"{called} is allowed{some} {region.by}: {danger.reason}{owners.also}",
-                   {**more, "is_always": how == ALWAYS, "arguments": shown, "entry": region.entry,
-                    **owners.as_json()})
+    return owners.finding("dangerous-call", f"{called} is allowed{some} {region.by}: {danger.reason}", **more,
+                          is_always=how == ALWAYS, arguments=shown, entry=region.entry)
 
 
 def of_dangerous(judged: Tables, watches: Mapping[str, Watch]) -> Iterator[Finding]:
@@ -161,10 +160,10 @@ def of_dangerous(judged: Tables, watches: Mapping[str, Watch]) -> Iterator[Findi
         if len(names) == 1:
             yield _allowed(names[0], dangerous()[names[0]], watches[owners.first], owners)
         else:
-            yield Finding("dangerous-call", f"the default allows {len(names)} syscalls{owners.where} that make a "
-                          f"sandbox useless: {listed(names, 'and')}",
-                          {"names": names, "reasons": {name: dangerous()[name].reason for name in names},
-                           "is_always": True, "entry": None, **owners.as_json()})
+            reasons = {name: dangerous()[name].reason for name in names}
+            text = f"the default allows {len(names)} syscalls{owners.where} that make a sandbox useless"
+            yield Finding("dangerous-call", f"{text}: {listed(names)}", names=names, reasons=reasons, is_always=True,
+                          entry=None, **owners.as_json())
 
 
 def of_needed(judged: Tables, watches: Mapping[str, Watch]) -> Iterator[Finding]:
@@ -177,14 +176,15 @@ def of_needed(judged: Tables, watches: Mapping[str, Watch]) -> Iterator[Finding]
         for _, owners in by_owners(lacks, judged):
             watch = watches[owners.first]
             users, denied = watch.users(needed), watch.denied(needed.name)
-            more: dict[str, object] = {"names": users, **owners.as_json()}
             called = owners.named(needed.name, watch.table.number_of(needed.name) or 0)
             if denied is None:
-                yield Finding(needed.kind, f"undecided whether {called} is always allowed{owners.also}", more, False)
+                yield owners.finding(needed.kind, f"undecided whether {called} is always allowed", is_decided=False,
+                                     names=users)
             else:
-                yield Finding(needed.kind, f"{listed(users, 'and')} {'is' if len(users) == 1 else 'are'} allowed, and "
-                              f"{called} is not: {needed.why} is answered {denied.by} {denied.answer.describe()}"
-                              f"{owners.also}", {**more, "entry": denied.entry})
+                are = "is" if len(users) == 1 else "are"
+                yield Finding(needed.kind, f"{listed(users)} {are} allowed, and {called} is not: {needed.why} is "
+                              f"answered {denied.by} {denied.answer.describe()}{owners.also}", names=users,
+                              **owners.as_json(), entry=denied.entry)
 
 
 def of_start(judged: Tables, watches: Mapping[str, Watch]) -> Iterator[Finding]:
@@ -194,7 +194,7 @@ def of_start(judged: Tables, watches: Mapping[str, Watch]) -> Iterator[Finding]:
     if own is None or watch is None:
         return
     if not watch.is_finished:
-        yield Finding("no-start", f"undecided whether {judged.reading} starts anything: {UNFINISHED}", {}, False)
+        yield Finding("no-start", f"undecided whether {judged.reading} starts anything: {UNFINISHED}", False)
     answers = {name: [region.answer for region in watch.regions_of(name)] for name in own.names
                if watch.has(name) and watch.is_finished}
     denied = [name for name, its in answers.items() if all(answer and answer.denies for answer in its)]
@@ -203,9 +203,8 @@ def of_start(judged: Tables, watches: Mapping[str, Watch]) -> Iterator[Finding]:
                                         (" without noNewPrivileges", own.denied_early, own.killed_early)):
         names = [name for name in denied if name in of_denied or name in killed and name in of_killed]
         if names:
-            yield Finding("no-start", f"{judged.reading} {own.version} starts nothing{where}: it calls "
-                          f"{listed(names, 'and')} itself behind the filter, which the profile denies",
-                          {"names": names})
+            yield Finding("no-start", f"{judged.reading} {own.version} starts nothing{where}: it calls {listed(names)} "
+                          "itself behind the filter, which the profile denies", names=names)
             return
 
 
@@ -220,10 +219,9 @@ def of_fallbacks(judged: Tables, watches: Mapping[str, Watch]) -> Iterator[Findi
                     any(region and region.answer.allows for region in instead):
                 denials[oci] = denied.answer, denied.by, denied.entry
         for (answer, by, entry), owners in by_owners(denials, judged):
-            yield Finding("no-fallback", f"{owners.named(newer, numbers[owners.first])} is answered {by} {answer}, and "
-                          f"{older} is allowed: libc calls {older} instead only after ENOSYS, which is errno "
-                          f"{ENOSYS.data}{owners.also}",
-                          {"name": newer, "instead": older, "entry": entry, **owners.as_json()})
+            text = (f"{owners.named(newer, numbers[owners.first])} is answered {by} {answer}, and {older} is allowed: "
+                    f"libc calls {older} instead only after ENOSYS, which is errno {ENOSYS.data}")
+            yield owners.finding("no-fallback", text, name=newer, instead=older, entry=entry)
 
 
 def of_siblings(judged: Tables, watches: Mapping[str, Watch], entries: Sequence[Entry]) -> Iterator[Finding]:
@@ -242,5 +240,5 @@ def of_siblings(judged: Tables, watches: Mapping[str, Watch], entries: Sequence[
                 void[oci] = (denied.entry, denied.answer, allowed) if allowed else None
         for (entry, answer, others), on in by_owners(void, judged):
             yield Finding("sibling-allowed", f"{name} is denied{on.where} by entry {entry} ({answer}), and "
-                          f"{listed(others, 'and')}, which can do the same, {'is' if len(others) == 1 else 'are'} "
-                          "allowed", {"entry": entry, "name": name, "allowed": list(others), **on.as_json()})
+                          f"{listed(others)}, which can do the same, {'is' if len(others) == 1 else 'are'} allowed",
+                          entry=entry, name=name, allowed=list(others), **on.as_json())

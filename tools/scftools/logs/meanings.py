@@ -12,7 +12,7 @@ from ..model.calls import Call
 from ..model.tables import Table, Tables
 from ..ask import explanation, verdicts
 from ..ask.client import FAULT, Fault
-from ..lint import kinds
+from ..lint import findings
 
 RANKS = "denied < delegated < allowed"
 # What verdicts mean: those of comparisons, and of `audit` and `verify`.
@@ -132,7 +132,7 @@ def _of_left_out(line: str, table: Table) -> Iterator[str]:
 
 def _of_finding(line: str) -> Iterator[str]:
     grade, _, finding = line.partition(" ")
-    what = kinds.meanings().get((finding if grade in kinds.GRADES else line).partition(":")[0])
+    what = findings.meanings().get((finding if grade in findings.GRADES else line).partition(":")[0])
     if what is not None:
         yield f"a finding of lint: {what}"
 

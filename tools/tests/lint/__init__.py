@@ -2,7 +2,7 @@
 import json
 
 from support.common import Case
-from scftools.lint.kinds import FINDING_KINDS
+from scftools.lint.findings import FINDING_KINDS
 
 
 class Linted(Case):

@@ -20,7 +20,7 @@ from scftools.model import constants, libseccomp, tables
 from scftools.model.calls import Call
 from scftools.ask import client
 from scftools.lint import oddities, watchlist
-from scftools.lint.kinds import FINDING_KINDS
+from scftools.lint.findings import FINDING_KINDS
 
 ALLOW, ERRNO, TOP_OF = "SCMP_ACT_ALLOW", "SCMP_ACT_ERRNO", (1 << 64) - 1
 NATIVE, I386, X32, AARCH64, ARM = (f"SCMP_ARCH_{it}" for it in ("X86_64", "X86", "X32", "AARCH64", "ARM"))

@@ -12,7 +12,7 @@ from support.several import Reading, word_of
 from support.stand_in import StandIn, unpacked, words_of
 from scftools.model import libseccomp, tables
 from scftools.model.calls import Call
-from scftools.lint import kinds
+from scftools.lint import findings
 from scftools.commands import profile_of
 
 HEADERS = {"socketcall": ("/usr/include/linux/net.h", r"^#define SYS_(\w+)\s+(\d+)"),
@@ -42,7 +42,7 @@ class Words(Case):
         for names, texts in ((("i386", "ppc64le", "mipsel"), (profile_of.__doc__.partition("also made by")[0], *(
                                  of_page[word] for word in of_page if "ipc" in word))),
                              (("i386", "x32", "arm", "mipsel", "mipsel64n32"), (
-                                 kinds.meanings()["wide"], of_page["`wide`"]))):
+                                 findings.meanings()["wide"], of_page["`wide`"]))):
             for text in texts:
                 self.assertEqual([name for name in names if not re.search(rf"\b{name}\b", text)], [], text)
 
