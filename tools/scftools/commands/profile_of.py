@@ -206,10 +206,10 @@ def of_unit(options):
 def judge(stack, options, architecture, table):
     """The profile of a stack of filters; remarks go to standard error."""
     others = [name for name in architectures.JUDGED if name != architecture.oci] if options.arch is None else []
-    request = profile_of.ProfileRequest(stack, table, architecture, options.runtime, others,
-                                        has_trap_data=options.runtime is None and options.kubernetes is None)
+    has_trap_data = options.runtime is None and options.kubernetes is None
     try:
-        result = profile_of.of_request(request, options.relation)
+        result = profile_of.of_filters(stack, options.relation, table, architecture, options.runtime, others,
+                                       has_trap_data)
         text = result.text if options.kubernetes is None or result.status != program.SUCCESS else \
             kubernetes.printed(result.profiles[0].profile, options.kubernetes)
     except Refusal as why:

@@ -14,7 +14,7 @@ from ..base import output, program
 from ..base.values import Any, dataclass, field, replace
 from ..model import architectures, constants, profiles, tables
 from ..model.answers import ACTIONS_WITH_DATA, DISPOSITIONS, ENOSYS, FIRST_X32, Answer
-from ..model.architectures import JUDGED, NATIVE, Architecture
+from ..model.architectures import JUDGED, Architecture
 from ..model.argument_sets import EMPTY_SET, FIRST_UNTESTED, FULL_SET, MOST_STEPS, Sets, Steps, TooMany
 from ..model.profiles import SANDBOX, STRICT, TRAP
 from ..ask import answer_sets, client, other_abis, questions, regions
@@ -59,28 +59,45 @@ def entry_of(names: Sequence[str], answer: Answer, alternative: Alternative) -> 
     return {"names": list(names), **answer.members(), **({"args": args} if args else {})}
 
 
-@dataclass(frozen=True)
 class FilterAnswers:
-    """The answers of filters to an architecture's numbers: those in its table, and those at which tests change."""
+    """Filters, oldest first, with their regions, None if unfinished: their answers to an architecture's numbers, those
+    in its table and those at which tests change. And what their profile is for: the name of the runtime that reads it,
+    the OCI names of other architectures that it may list, and whether TRAP may have data. The steps in which they are
+    followed are as many as --limit gives, if they are more than without."""
 
-    architecture: Architecture
-    sets: Sets
-    table: tables.Table
-    numbers: Sequence[int]
-    answers: Sequence[Answers]
-    covers: Covers
-    # the least number that runc's stub answers, or one that no table has
-    end: int = FIRST_X32
-    # whether they weren't followed to their end, and nothing is known
-    is_unfinished: bool = False
-    # whether their profile may have TRAP's data
-    has_trap_data: bool = False
+    def __init__(self, filters: Sequence[Filter], filter_regions: Sequence[Region] | None, table: tables.Table,
+                 architecture: Architecture, runtime: str | None = None, others: Sequence[str] = (),
+                 has_trap_data: bool = False, steps: Steps | None = None):
+        self.filters, self.regions, self.table, self.architecture = filters, filter_regions, table, architecture
+        self.runtime, self.others, self.has_trap_data = runtime, others, has_trap_data
+        self.steps = steps or Steps(max(MOST_STEPS, constants.number_in(client.limits.get("limit", "")) or 0))
+        self.sets, numbers = Sets(architecture.bits, self.steps), Numbers(filter_regions, architecture)
+        firsts = (low - architecture.first for low, _, _ in numbers.ranges or ())
+        self.numbers = sorted({*table.numbers(), *(first for first in firsts if first < FIRST_X32),
+                               *(first for first, _ in questions.gaps(table, architecture))})
+        # whether they weren't followed to their end, and nothing is known
+        self.is_unfinished = filter_regions is None
+        try:
+            self.answers = answer_sets.of_numbers(self.sets, numbers, [architecture.first + at for at in self.numbers])
+        except TooMany:
+            self.sets, self.is_unfinished = Sets(architecture.bits, Steps()), True
+        if self.is_unfinished:
+            self.answers = [((None, FULL_SET),)] * len(self.numbers)
+        self.covers = Covers(self.sets)
+        is_runc = runtime is not None and runtimes.RUNTIMES[runtime].program == runtimes.RUNC
+        # the least number that runc's stub answers, or one that no table has
+        self.end = self.stub_end if is_runc else FIRST_X32
 
-    def with_stub(self) -> FilterAnswers:
-        """The answers without those to the numbers from one on that all get ENOSYS."""
+    @property
+    def data(self) -> list[bytes]:
+        return [bpf_filter.data for bpf_filter in self.filters]
+
+    @property
+    def stub_end(self) -> int:
+        """The number from which on all get ENOSYS, or one that no table has."""
         stub = ((ENOSYS.word, FULL_SET),)
         count = next((at for at in range(len(self.numbers), 0, -1) if self.answers[at - 1] != stub), 0)
-        return replace(self, end=self.numbers[count]) if 0 < count < len(self.numbers) else self
+        return self.numbers[count] if 0 < count < len(self.numbers) else FIRST_X32
 
     def numbered(self, are_named: bool) -> list[tuple[int, Answers]]:
         """The numbers that the table names, or doesn't, each with its answers."""
@@ -135,6 +152,32 @@ class FilterAnswers:
     def covers_beside(self, parts: dict[Answer, int], default: Answer) -> dict[Answer, list[Alternative] | None]:
         """The alternatives of each answer but the default; None for one that needs too many."""
         return {answer: self.covers.of_set(arguments) for answer, arguments in parts.items() if answer != default}
+
+    def comparison(self, profile: dict[str, object], relation: str = SAME) -> Comparison:
+        """The comparison of the filters with a profile, for the same relation with the stub that they have."""
+        # (a profile is no less permissive than the filters if these are no more so)
+        given = ProfileInput(profiles.read_as(engines.to_bytes(profile), reading_of(profile)))
+        if self.runtime is not None:
+            given = runtimes.applied(engines.parse_json(given.data), self.runtime)
+            given = given if relation == SAME and self.end != FIRST_X32 else replace(given, stub={})
+        return Comparison(self.filters, given, self.table, TURNED.get(relation, relation),
+                          architecture=self.architecture.oci, elsewhere=other_abis.NAMES)
+
+    def compared(self, profile: dict[str, object], relation: str = SAME) -> tuple[Report, dict[str, int]]:
+        """scf's report on whether a profile has this relation to the filters, in each architecture that it lists, and
+        where runc's stub begins.
+
+        Raises Refusal if scf refuses the filters, the table or the limit.
+        """
+        comparison = self.comparison(profile, relation)
+        status, report = comparison.run_unchecked()
+        if report.fault is not None and report.fault.source != "profile":
+            raise client.Refusal(report.fault.line, status)
+        return report, comparison.right.stub
+
+    def calls(self, profile: dict[str, object], relation: str) -> list[NamedCall]:
+        """The syscalls in the table of which this relation isn't proved, of a profile that scf takes."""
+        return self.comparison(profile, relation).calls_of(self.architecture.oci)
 
 
 @dataclass
@@ -244,77 +287,7 @@ def reading_of(profile: dict[str, object]) -> str:
     return SANDBOX if (TRAP, True) in holders else STRICT
 
 
-def own_steps() -> Steps:
-    """The steps in which filters are followed: as many as --limit gives, if they are more than without."""
-    return Steps(max(MOST_STEPS, constants.number_in(client.limits.get("limit", "")) or 0))
-
-
-@dataclass(frozen=True)
-class ProfileRequest:
-    """Filters, oldest first, the table of an architecture, the architecture, the name of the runtime that reads the
-    profile, the OCI names of other architectures that the profile may list, the steps in which profiles are found, the
-    filters' regions, None if unfinished, whether they begin with runc's stub, and whether TRAP may have data."""
-
-    filters: Sequence[Filter]
-    table: tables.Table
-    architecture: Architecture = JUDGED[NATIVE]
-    runtime: str | None = None
-    others: Sequence[str] = ()
-    steps: Steps = field(default_factory=own_steps)
-    regions: Sequence[Region] | None = None
-    has_stub: bool = False
-    has_trap_data: bool = False
-
-    @property
-    def data(self) -> list[bytes]:
-        return [bpf_filter.data for bpf_filter in self.filters]
-
-    def comparison(self, profile: dict[str, object], relation: str = SAME) -> Comparison:
-        """The comparison of the filters with a profile, for the same relation with the stub that they have."""
-        # (a profile is no less permissive than the filters if these are no more so)
-        given = ProfileInput(profiles.read_as(engines.to_bytes(profile), reading_of(profile)))
-        if self.runtime is not None:
-            given = runtimes.applied(engines.parse_json(given.data), self.runtime)
-            given = given if relation == SAME and self.has_stub else replace(given, stub={})
-        return Comparison(self.filters, given, self.table, TURNED.get(relation, relation),
-                          architecture=self.architecture.oci, elsewhere=other_abis.NAMES)
-
-    def compared(self, profile: dict[str, object], relation: str = SAME) -> tuple[Report, dict[str, int]]:
-        """scf's report on whether a profile has this relation to the filters, in each architecture that it lists, and
-        where runc's stub begins.
-
-        Raises Refusal if scf refuses the filters, the table or the limit.
-        """
-        comparison = self.comparison(profile, relation)
-        status, report = comparison.run_unchecked()
-        if report.fault is not None and report.fault.source != "profile":
-            raise client.Refusal(report.fault.line, status)
-        return report, comparison.right.stub
-
-    def calls(self, profile: dict[str, object], relation: str) -> list[NamedCall]:
-        """The syscalls in the table of which this relation isn't proved, of a profile that scf takes."""
-        return self.comparison(profile, relation).calls_of(self.architecture.oci)
-
-    def answers(self) -> FilterAnswers:
-        """The answers of the filters, number by number; nothing is known if that takes too many steps."""
-        architecture, is_unfinished = self.architecture, self.regions is None
-        sets, numbers = Sets(architecture.bits, self.steps), Numbers(self.regions, architecture)
-        firsts = (low - architecture.first for low, _, _ in numbers.ranges or ())
-        listed = sorted({*self.table.numbers(), *(first for first in firsts if first < FIRST_X32),
-                         *(first for first, _ in questions.gaps(self.table, architecture))})
-        try:
-            by_number = answer_sets.of_numbers(sets, numbers, [architecture.first + number for number in listed])
-        except TooMany:
-            sets, is_unfinished = Sets(architecture.bits, Steps()), True
-        if is_unfinished:
-            by_number = [((None, FULL_SET),)] * len(listed)
-        answers = FilterAnswers(architecture, sets, self.table, listed, by_number, Covers(sets),
-                                is_unfinished=is_unfinished, has_trap_data=self.has_trap_data)
-        is_runc = self.runtime is not None and runtimes.RUNTIMES[self.runtime].program == runtimes.RUNC
-        return answers.with_stub() if is_runc else answers
-
-
-def _same(request: ProfileRequest, answers: FilterAnswers) -> ProvedProfile | None:
+def _same(answers: FilterAnswers) -> ProvedProfile | None:
     """The profile that answers as the filters do, and the other architectures that it lists, if scf proves it."""
     draft = Draft(answers, True)
     default = draft.default()
@@ -326,26 +299,27 @@ def _same(request: ProfileRequest, answers: FilterAnswers) -> ProvedProfile | No
         return None
     # of each other architecture, but those of which the filters kill every syscall
     others = []
-    for architecture, table in ((JUDGED[name], tables.architecture_table(name)) for name in request.others):
-        ranges = Numbers(request.regions, architecture).ranges
+    for architecture, table in ((JUDGED[name], tables.architecture_table(name)) for name in answers.others):
+        ranges = Numbers(answers.regions, architecture).ranges
         are_killed = ranges is not None and all(
             region.answer is not None and region.answer.action.startswith("KILL")
             for _, _, here in ranges for region in here)
         if table is not None and not are_killed:
-            others.append(replace(request, table=table, architecture=architecture).answers())
+            others.append(FilterAnswers(answers.filters, answers.regions, table, architecture, answers.runtime,
+                                        has_trap_data=answers.has_trap_data, steps=answers.steps))
     while True:
         profile = draft.profile(others)
-        report, stub = request.compared(profile)
+        report, stub = answers.compared(profile)
         if report.verdict is not None and report.verdict.holds:
             return ProvedProfile(profile, (SAME,), [each.architecture.oci for each in (answers, *others)], stub=stub)
         failing = None if report.verdict is None or report.verdict.call is None else report.verdict.call.abi
-        if not others or failing == request.architecture.oci:
+        if not others or failing == answers.architecture.oci:
             return None
         remaining = [each for each in others if each.architecture.oci != failing]
         others = remaining if len(remaining) < len(others) else others[:-1]
 
 
-def _bound(request: ProfileRequest, answers: FilterAnswers, relation: str) -> ProvedProfile | None:
+def _bound(answers: FilterAnswers, relation: str) -> ProvedProfile | None:
     """The nearest profile that scf proves to be no less, or no more, permissive than the filters."""
     draft = Draft(answers, relation == NO_LESS)
     # in each turn some numbers get a level more
@@ -353,24 +327,24 @@ def _bound(request: ProfileRequest, answers: FilterAnswers, relation: str) -> Pr
         if not client.has_time():
             break
         profile = draft.profile()
-        report, _ = request.compared(profile, relation)
+        report, _ = answers.compared(profile, relation)
         if report.verdict is not None and report.verdict.holds:
             default = draft.default()
             # whether some syscall in the table may get another answer than by the filters, or isn't looked at
             differs = any(number >= answers.end for number in answers.table.numbers()) or any(
                 draft.levels.get(number) or answers.why_not(each, default) for number, each in answers.numbered(True))
-            return ProvedProfile(profile, (relation,), [request.architecture.oci],
-                                 request.calls(profile, SAME) if differs else [])
+            return ProvedProfile(profile, (relation,), [answers.architecture.oci],
+                                 answers.calls(profile, SAME) if differs else [])
         failed: Iterable[int | None]
         if report.fault is not None:
             failed = {number for number, number_answers in answers.numbered(True) if len(number_answers) > 1}
         else:
-            failed = {call.number for call in request.calls(profile, relation)}
+            failed = {call.number for call in answers.calls(profile, relation)}
         draft.levels.update({number: min(draft.levels.get(number, EXACT) + 1, UTMOST) for number in failed or [None]})
     return None
 
 
-def _differences(request: ProfileRequest, answers: FilterAnswers, proved: ProvedProfile) -> Iterator[str]:
+def _differences(answers: FilterAnswers, proved: ProvedProfile) -> Iterator[str]:
     """How a profile differs from the filters: each syscall by scf's line, and why no profile answers so."""
     yield f"proved: {' and '.join(RELATION_TEXTS[relation] for relation in proved.relations)} than the filters"
     # (of numbers that runc's stub answers nothing is known)
@@ -380,7 +354,7 @@ def _differences(request: ProfileRequest, answers: FilterAnswers, proved: Proved
     farther: list[NamedCall] = []
     if len(proved.relations) == 1:
         relation = proved.relations[0]
-        farther = request.calls(proved.profile, TURNED[relation]) if proved.calls else []
+        farther = answers.calls(proved.profile, TURNED[relation]) if proved.calls else []
         yield f"syscalls in the table for which the profile is, or may be, {FARTHER[relation]}: {len(farther)}"
     for call in farther:
         yield call.line
@@ -401,10 +375,10 @@ def _differences(request: ProfileRequest, answers: FilterAnswers, proved: Proved
             break
 
 
-def _covered(request: ProfileRequest, listed: Sequence[str], count: int = 1) -> Iterator[str]:
+def _covered(answers: FilterAnswers, listed: Sequence[str], count: int = 1) -> Iterator[str]:
     """The architectures that profiles, so many, list, if several, and those others of which scf doesn't prove that the
     filters deny every syscall."""
-    accesses = [other_abis.abi_access(request.data, request.regions, JUDGED[name]) for name in request.others
+    accesses = [other_abis.abi_access(answers.data, answers.regions, JUDGED[name]) for name in answers.others
                 if name not in listed]
     others = [f"{access.describe()}; --arch {access.abi.name} prints its profile" for access in accesses
               if not access.are_denied]
@@ -424,54 +398,56 @@ class Result:
     profiles: Sequence[ProvedProfile] = ()
 
 
-def _both_sides(request: ProfileRequest, answers: FilterAnswers, bounds: Sequence[ProvedProfile]) -> Iterator[str]:
+def _both_sides(answers: FilterAnswers, bounds: Sequence[ProvedProfile]) -> Iterator[str]:
     """The nearest profiles on both sides of the filters, each after lines about it."""
     yield "# no profile was found that scf proves to answer as the filters do"
     if answers.is_unfinished:
-        yield f"# {UNFINISHED_TEXT.format(request.steps.most)}"
-    if request.runtime is None and answers.with_stub().end != answers.end:
+        yield f"# {UNFINISHED_TEXT.format(answers.steps.most)}"
+    if answers.runtime is None and answers.stub_end != FIRST_X32:
         yield "# if runc loaded the filter, --runtime runc expects the ENOSYS that it adds"
-    yield from output.notes(_covered(request, [request.architecture.oci], len(bounds)))
+    yield from output.notes(_covered(answers, [answers.architecture.oci], len(bounds)))
     yield from output.notes(dict.fromkeys(remark for bound in bounds for remark in bound.reading_remarks))
     for bound in bounds:
-        yield from output.notes(_differences(request, answers, bound))
+        yield from output.notes(_differences(answers, bound))
         yield bound.text.rstrip("\n")
     for relation in (NO_LESS, NO_MORE):
         if not any(relation in bound.relations for bound in bounds):
             yield f"# no profile was found that is {RELATION_TEXTS[relation]} than the filters"
 
 
-def of_request(request: ProfileRequest, relation: str) -> Result:
+def of_filters(filters: Sequence[Filter], relation: str, table: tables.Table, architecture: Architecture,
+               runtime: str | None, others: Sequence[str], has_trap_data: bool) -> Result:
     """The profile of filters; with a relation other than the same, the nearest one that has it. Raises Refusal if scf
     refuses the filters or the table."""
-    request = replace(request, regions=regions.regions_of_filters(request.data))
-    Asker(request.data, request.architecture).check(request.table)
+    data = [bpf_filter.data for bpf_filter in filters]
+    filter_regions = regions.regions_of_filters(data)
+    Asker(data, architecture).check(table)
+    answers = FilterAnswers(filters, filter_regions, table, architecture, runtime, others, has_trap_data)
     try:
-        return _of_answers(request, request.answers(), relation)
+        return _of_answers(answers, relation)
     except TooMany:
-        return Result(program.UNKNOWN, "", [UNFINISHED_TEXT.format(request.steps.most)])
+        return Result(program.UNKNOWN, "", [UNFINISHED_TEXT.format(answers.steps.most)])
 
 
-def _of_answers(request: ProfileRequest, answers: FilterAnswers, relation: str) -> Result:
+def _of_answers(answers: FilterAnswers, relation: str) -> Result:
     """The result for filters with these answers. Raises TooMany."""
-    request = replace(request, has_stub=answers.end != FIRST_X32)
-    same = _same(request, answers)
+    same = _same(answers)
     if same is not None:
         stub = [profile_inputs.stub_note(same.stub)] if same.stub else []
-        remarks = [*same.reading_remarks, *_covered(request, same.architectures), *stub]
+        remarks = [*same.reading_remarks, *_covered(answers, same.architectures), *stub]
         return Result(program.SUCCESS, same.text, remarks, [same])
     if relation == SAME:
-        bounds = [*filter(None, (_bound(request, answers, each) for each in (NO_LESS, NO_MORE)))]
+        bounds = [*filter(None, (_bound(answers, each) for each in (NO_LESS, NO_MORE)))]
         if len(bounds) == 2 and bounds[0].profile == bounds[1].profile:
             # one that is on both sides stands once
             bounds = [replace(bounds[0], relations=(NO_LESS, NO_MORE))]
-        lines = list(_both_sides(request, answers, bounds))
+        lines = list(_both_sides(answers, bounds))
         remarks = [line[2:] for line in lines if line.startswith("# ")]
         return Result(program.UNKNOWN, bounds[0].text, remarks, bounds) if len(bounds) == 1 else \
             Result(program.UNKNOWN, "".join(f"{line}\n" for line in lines), [], bounds)
-    bound = _bound(request, answers, relation)
+    bound = _bound(answers, relation)
     if bound is None:
         return Result(program.UNKNOWN, "", [
             f"no profile was found that scf proves to be {RELATION_TEXTS[relation]} than the filters"])
-    remarks = [*_differences(request, answers, bound), *bound.reading_remarks, *_covered(request, bound.architectures)]
+    remarks = [*_differences(answers, bound), *bound.reading_remarks, *_covered(answers, bound.architectures)]
     return Result(program.SUCCESS, bound.text, remarks, [bound])

@@ -17,7 +17,7 @@ from ..ask.verdicts import NO_LESS, NO_MORE, SAME
 from ..forms.filters import Filter
 from .condition_texts import alternatives_text
 from .covers import MOST_ALTERNATIVES, Alternative
-from .profile_of import UNFINISHED_TEXT, FilterAnswers, ProfileRequest, entry_of, own_steps
+from .profile_of import UNFINISHED_TEXT, FilterAnswers, entry_of
 from .surfaces import Row, Surface
 
 # The most answers of a syscall of which one is sought that stands for all other arguments; and the most alternatives
@@ -122,10 +122,10 @@ def _failed(asker: Asker, drafts: Sequence[tuple[Row, Conditions]]) -> set[int]:
 def add(surface: Surface) -> list[str]:
     """Adds conditions, where scf proves them, to a surface's rows with several answers; a line if the filters weren't
     followed to their ends."""
-    asker, unfinished = surface.asker, [f"conditions: {UNFINISHED_TEXT.format(own_steps().most)}"]
-    request = ProfileRequest([Filter("", data) for data in asker.filters], surface.table, asker.architecture,
-                             regions=surface.regions, has_trap_data=True)
-    answers = request.answers()
+    asker = surface.asker
+    answers = FilterAnswers([Filter("", data) for data in asker.filters], surface.regions, surface.table,
+                            asker.architecture, has_trap_data=True)
+    unfinished = [f"conditions: {UNFINISHED_TEXT.format(answers.steps.most)}"]
     of_number, found = dict(answers.numbered(True)), functools.lru_cache(None)(functools.partial(_of_answers, answers))
     groups: dict[tuple[Answer, bool], list[tuple[Row, Conditions]]] = {}
     try:
