@@ -3,7 +3,9 @@ each syscall; and as JSON. Of two surfaces the syscalls are shown that get diffe
 undecided, as scf compares the filters of both."""
 from __future__ import annotations
 
-from collections.abc import Iterable, Iterator, Sequence
+import functools
+import textwrap
+from collections.abc import Callable, Iterable, Iterator, Sequence
 
 from ..base import output, program
 from ..base.values import Any, dataclass
@@ -79,13 +81,7 @@ def danger_lines(surface: Surface) -> list[str]:
 
 def wrapped(words: Iterable[str], width: int) -> list[str]:
     """Words wrapped to a width; a longer word has a line of its own."""
-    lines: list[str] = []
-    for word in words:
-        if lines and len(lines[-1]) + 1 + len(word) <= width:
-            lines[-1] += f" {word}"
-        else:
-            lines.append(word)
-    return lines
+    return textwrap.wrap(" ".join(words), max(width, 1), break_long_words=False, break_on_hyphens=False)
 
 
 def fitted(lines: Iterable[str], width: int | None) -> Iterator[str]:
@@ -132,13 +128,6 @@ def details(row: Row, is_in_table: bool = False) -> list[str]:
     return [row.answer.named() if is_in_table else str(row.answer)] if row.answer else []
 
 
-def plain(rows: Iterable[Row], groups: Groups) -> Iterator[str]:
-    """A line for each syscall, group by group."""
-    for group, members in grouped(rows, groups):
-        for row in members:
-            yield " ".join([group, row.said, str(row.number), ",".join(row.names), *details(row)])
-
-
 def grouped(rows: Iterable[Row], groups: Groups) -> list[tuple[str, list[Row]]]:
     """The rows of each group, in the order of the groups; empty groups are left out."""
     rows_of_groups: dict[str, list[Row]] = {group: [] for group in groups.order}
@@ -160,24 +149,36 @@ def _cell(rows: Sequence[Row], width: int) -> list[str]:
     return lines
 
 
-def as_table(rows: Iterable[Row], groups: Groups, width: int) -> Iterator[str]:
-    """The syscalls of each group, by disposition."""
-    members_of_groups = grouped(rows, groups)
-    before, next_to = max((len(group) for group, _ in members_of_groups), default=0) + 2, max(map(len, ROW_WORDS)) + 2
+def _in_columns(groups: Sequence[tuple[str, dict[str, Callable[[int], list[str]]]]], next_to: int,
+                width: int) -> Iterator[str]:
+    """Groups of cells, each behind its group and a word, which may be empty, in a column that is so wide; or below
+    these, where it would be narrow."""
+    before = max((len(group) for group, _ in groups), default=0) + 2
     is_narrow = width - before - next_to < LEAST_WIDTH
-    for group, members in members_of_groups:
-        heading = group
-        for disposition in ROW_WORDS:
-            column = [row for row in members if row.said == disposition]
-            if not column:
-                continue
+    for heading, cells in groups:
+        for word, lines_of in cells.items():
             if is_narrow:
-                yield from ([heading] if heading else []) + [f" {disposition}"]
-                yield from (f"  {line}" for line in _cell(column, width - 2))
+                indent = "  " if word else " "
+                yield from filter(None, [heading, word and f" {word}"])
+                yield from (f"{indent}{line}" for line in lines_of(width - len(indent)))
             else:
-                for at, line in enumerate(_cell(column, width - before - next_to)):
-                    yield f"{heading if at == 0 else '':{before}}{disposition if at == 0 else '':{next_to}}{line}"
+                for line in lines_of(width - before - next_to):
+                    yield f"{heading:{before}}{word.ljust(next_to)}{line}"
+                    heading = word = ""
             heading = ""
+
+
+def _row_lines(rows: Sequence[Row], groups: Groups, width: int | None) -> Iterator[str]:
+    """The syscalls of each group: a line for each, or by disposition as a table."""
+    by_group = grouped(rows, groups)
+    if width is None:
+        return (" ".join([group, row.said, str(row.number), ",".join(row.names), *details(row)])
+                for group, members in by_group for row in members)
+    cells = []
+    for group, members in by_group:
+        alike = {word: [row for row in members if row.said == word] for word in ROW_WORDS}
+        cells.append((group, {word: functools.partial(_cell, its) for word, its in alike.items() if its}))
+    return _in_columns(cells, max(map(len, ROW_WORDS)) + 2, width)
 
 
 def row_json(row: Row, groups: Groups) -> dict[str, object]:
@@ -233,7 +234,7 @@ class Pair:
         """The call that scf shows and both answers, if the rows alone don't tell them apart; else nothing."""
         verdict, (row, row_beside) = self.line.verdict, self.rows
         is_alike = row.said == row_beside.said and (row.said == DEPENDS or row.answer == row_beside.answer)
-        if not is_alike or verdict.call is None or verdict.filters is None or verdict.profile is None:
+        if not is_alike or None in (verdict.call, verdict.filters, verdict.profile):
             return ""
         call = constants.call_text(self.names[0], verdict.call.arguments)
         return f"such as {call}: {verdict.filters.named()} {BESIDE} {verdict.profile.named()}"
@@ -243,13 +244,12 @@ class Pair:
         return [" ".join([row.said, *details(row, is_in_table)]) for row in self.rows]
 
     def as_json(self, groups: Groups) -> dict[str, object]:
-        verdict, rows = self.line.verdict, dict(zip(("filter", BESIDE), self.rows))
-        members: dict[str, object] = {side: row_json(row, groups) for side, row in rows.items()}
-        if verdict.call is None or verdict.filters is None or verdict.profile is None:
-            return {**members, "verdict": verdict.word}
-        return {**members, "verdict": verdict.word, "example": {
-            "arguments": [hex(argument) for argument in verdict.call.arguments],
-            "filter": verdict.filters.as_json(), BESIDE: verdict.profile.as_json()}}
+        verdict, (row, row_beside) = self.line.verdict, self.rows
+        members = {"filter": row_json(row, groups), BESIDE: row_json(row_beside, groups), "verdict": verdict.word}
+        if None not in (verdict.call, verdict.filters, verdict.profile):
+            members["example"] = {"arguments": [*map(hex, verdict.call.arguments)],
+                                  "filter": verdict.filters.as_json(), BESIDE: verdict.profile.as_json()}
+        return members
 
 
 @dataclass(frozen=True)
@@ -291,22 +291,15 @@ def compared_surfaces(*sides: Surface) -> Beside:
                                                 for verdicts in (of_unnamed, of_foreign)))
 
 
-def _as_table(beside: Beside, groups: Groups, width: int) -> Iterator[str]:
-    of_groups = grouped(beside.pairs, groups)
-    before = max((len(group) for group, _ in of_groups), default=0) + 2
-    before = before if width - before >= LEAST_WIDTH else 1
-    for group, pairs in of_groups:
-        heading = f"{group:{before}}" if before > 1 else ""
-        if before == 1:
-            yield group
-        for pair in pairs:
-            text, text_beside = pair.texts(True)
-            parts = ([*pair.names, f"({pair.number})"], text.split(), [f"{BESIDE}:", *text_beside.split()],
-                     pair.example.split())
-            for at, words in enumerate(parts):
-                for line in wrapped(words, width - before - 2 * (at > 0)):
-                    yield f"{heading or ' ' * before}{'  ' * (at > 0)}{line}"
-                    heading = " " * before
+def _pair_cell(pairs: Sequence[Pair], width: int) -> list[str]:
+    """A group's syscalls that differ: below the names of each what either side says, and a call that shows it."""
+    lines: list[str] = []
+    for pair in pairs:
+        text, text_beside = pair.texts(True)
+        lines += wrapped([*pair.names, f"({pair.number})"], width)
+        for words in (text.split(), [f"{BESIDE}:", *text_beside.split()], pair.example.split()):
+            lines += [f"  {line}" for line in wrapped(words, width - 2)]
+    return lines
 
 
 def lines_beside(beside: Beside, groups: Groups, width: int | None) -> Iterator[str]:
@@ -317,14 +310,14 @@ def lines_beside(beside: Beside, groups: Groups, width: int | None) -> Iterator[
     whole = [text for at, (line, other) in enumerate(zip(*map(whole_lines, beside.sides)))
              for text in [line, *[f"{BESIDE}: {other}"] * (at == 0 or line != other)]]
     yield from fitted([*whole, count], width)
-    if width is not None:
-        yield from _as_table(beside, groups, width)
+    by_group = grouped(beside.pairs, groups)
+    if width is None:
+        yield from (" ".join(filter(None, [group, str(pair.number), ",".join(pair.names),
+                                           f" {BESIDE} ".join(pair.texts(False)), pair.example]))
+                    for group, pairs in by_group for pair in pairs)
     else:
-        for group, pairs in grouped(beside.pairs, groups):
-            for pair in pairs:
-                text, text_beside = pair.texts(False)
-                yield " ".join(filter(None, [group, str(pair.number), ",".join(pair.names), text, BESIDE, text_beside,
-                                             pair.example]))
+        cells = [(group, {"": functools.partial(_pair_cell, pairs)}) for group, pairs in by_group]
+        yield from _in_columns(cells, 0, width)
     for subject, differ in (("numbers without a name", beside.unnamed_differ),
                             ("syscalls of other ABIs", beside.foreign_differ)):
         if differ:
@@ -352,11 +345,10 @@ class StackSurface:
             return [self.fault.line, *output.notes(sentences)]
         if self.surface is None:
             return []
-        groups, rows = Groups(), self.surface.rows
         if self.beside is not None:
-            return lines_beside(self.beside, groups, width)
+            return lines_beside(self.beside, Groups(), width)
         return [*fitted([*whole_lines(self.surface), *danger_lines(self.surface)], width),
-                *(plain(rows, groups) if width is None else as_table(rows, groups, width))]
+                *_row_lines(self.surface.rows, Groups(), width)]
 
     def _members(self) -> dict[str, object]:
         if self.fault is not None:
@@ -386,9 +378,8 @@ def surface_of_stack(filters: Sequence[Filter], beside: Sequence[Filter], table:
         if has_conditions:
             from . import row_conditions  # pylint: disable=import-outside-toplevel
 
-            unfinished = row_conditions.add(surface)
-            surface.are_conditions_finished = not unfinished
-            program.say(*unfinished)
+            surface.unfinished = row_conditions.add(surface)
+            program.say(*surface.unfinished)
         return surface
 
     refused = filters

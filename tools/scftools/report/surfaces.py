@@ -50,8 +50,7 @@ class Shown:
 
 
 class Row:
-    """A number of an architecture, its regions, none if these are unfinished, the dispositions that its syscalls may
-    have, and examples that comparisons add."""
+    """A number of an architecture, its regions, none if unfinished, and the dispositions that its syscalls may have."""
 
     def __init__(self, number: int, names: list[str], architecture: Architecture, regions_of_number: Sequence[Region]):
         self.number, self.names, self.architecture, self.regions = number, names, architecture, regions_of_number
@@ -59,34 +58,30 @@ class Row:
                          for region in regions_of_number}
         if not self.possible or UNDECIDED in self.possible:
             self.possible = set(MOST_PERMISSIVE_FIRST)
-        self.more: dict[str, Shown] = {}
         # which arguments get which answer, and whether to show a syscall of each region, on request
         self.conditions: Conditions | None = None
         self.has_examples = False
 
+    def _shown(self, region: Region) -> Shown:
+        return Shown(region.call_of(self.architecture.first + self.number, self.architecture.number), region.answer)
+
     @property
     def of_regions(self) -> Iterator[Shown]:
         """A syscall of each region that is decided."""
-        number, architecture = self.architecture.first + self.number, self.architecture.number
-        return (Shown(region.call_of(number, architecture), region.answer)
-                for region in self.regions if region.is_decided)
+        return (self._shown(region) for region in self.regions if region.is_decided)
 
-    def example(self, disposition: str) -> Shown | None:
-        """A syscall with this disposition, if one is known."""
-        return next((shown for shown in self.of_regions if shown.answer.disposition == disposition),
-                    self.more.get(disposition))
-
-    @property
-    def occurring(self) -> set[str]:
-        """The dispositions of which there is an example."""
-        return {region.answer.disposition for region in self.regions if region.is_decided}.union(self.more)
+    @functools.cached_property
+    def examples(self) -> dict[str, Shown]:
+        """An example of each disposition that is known to occur; comparisons add others."""
+        firsts = {region.answer.disposition: region for region in reversed(self.regions) if region.is_decided}
+        return {disposition: self._shown(region) for disposition, region in firsts.items()}
 
     @property
     def said(self) -> str:
         """The disposition of all syscalls of the number, or that it depends or is undecided."""
         if len(self.possible) == 1:
             return next(iter(self.possible))
-        return DEPENDS if len(self.occurring) > 1 else UNDECIDED if self.regions else UNFINISHED
+        return DEPENDS if len(self.examples) > 1 else UNDECIDED if self.regions else UNFINISHED
 
     @property
     def is_decided(self) -> bool:
@@ -96,8 +91,7 @@ class Row:
     def shown(self) -> dict[str, Shown]:
         """An example for each disposition that occurs, if it depends or is undecided."""
         ranks = MOST_PERMISSIVE_FIRST if len(self.possible) > 1 else ()
-        examples = {disposition: self.example(disposition) for disposition in ranks}
-        return {disposition: shown for disposition, shown in examples.items() if shown is not None}
+        return {disposition: self.examples[disposition] for disposition in ranks if disposition in self.examples}
 
     @property
     def never(self) -> list[str]:
@@ -107,8 +101,7 @@ class Row:
     @property
     def answer(self) -> Answer | None:
         """The answer to some syscall of the number."""
-        return next((region.answer for region in self.regions if region.is_decided), None) or \
-            next((shown.answer for shown in self.more.values()), None)
+        return next((shown.answer for shown in self.examples.values()), None)
 
 
 @dataclass
@@ -126,9 +119,9 @@ class Unnamed:
     def add(self, row: Row, count: int) -> None:
         """Adds numbers whose syscalls are answered as those of a row."""
         self.are_allowed = self.are_allowed and row.possible == {ALLOWED}
-        if row.occurring - {DENIED} or DENIED not in row.possible:
+        if row.examples.keys() - {DENIED} or DENIED not in row.possible:
             self.not_denied += count
-            self.shown = self.shown or row.example(ALLOWED) or row.example(DELEGATED)
+            self.shown = self.shown or row.examples.get(ALLOWED) or row.examples.get(DELEGATED)
         elif row.possible != {DENIED}:
             self.undecided += count
 
@@ -143,11 +136,9 @@ class Unnamed:
         return f"at least {text}; {self.undecided} are undecided" if self.undecided else text
 
     def as_json(self) -> dict[str, object]:
-        members: dict[str, object] = {"count": self.count, "not_denied": self.not_denied, "undecided": self.undecided,
-                                    "are_allowed": self.are_allowed}
-        if self.shown is not None:
-            members["example"] = {"number": self.shown.call.number, "answer": self.shown.answer.as_json()}
-        return members
+        shown = self.shown and {"number": self.shown.call.number, "answer": self.shown.answer.as_json()}
+        return {"count": self.count, "not_denied": self.not_denied, "undecided": self.undecided,
+                "are_allowed": self.are_allowed, **({"example": shown} if shown else {})}
 
 
 @dataclass
@@ -163,8 +154,8 @@ class Surface:
     unnamed: Unnamed
     # those of other ABIs of which some syscall may be allowed, on request
     others: list[Surface] = field(default_factory=list)
-    # whether the conditions that are asked for were looked for to the end
-    are_conditions_finished: bool = True
+    # a line if the conditions that are asked for weren't looked for to the end
+    unfinished: Sequence[str] = ()
 
     @functools.cached_property
     def counts(self) -> Counter[str]:
@@ -173,10 +164,8 @@ class Surface:
     @property
     def is_decided(self) -> bool:
         """Whether scf decided everything."""
-        return (all(row.is_decided for row in self.rows) and not self.unnamed.undecided
-                and self.are_conditions_finished
-                and all(access.is_decided for access in self.foreign)
-                and all(surface.is_decided for surface in self.others))
+        return (all(row.is_decided for row in self.rows) and not self.unnamed.undecided and not self.unfinished
+                and all(each.is_decided for each in (*self.foreign, *self.others)))
 
     @property
     def other_machines(self) -> list[Architecture]:
@@ -205,7 +194,7 @@ def _ask(asker: Asker, rows: Iterable[Row]) -> None:
                 row.possible &= possible
             elif verdict.call is not None and verdict.filters is not None and (
                     not asker.looks_at_pointer or asker.decided(verdict.call) == verdict.filters):
-                row.more.setdefault(verdict.filters.disposition, Shown(verdict.call, verdict.filters))
+                row.examples.setdefault(verdict.filters.disposition, Shown(verdict.call, verdict.filters))
 
 
 def of_regions(filters: Sequence[bytes], filter_regions: Sequence[Region] | None, table: Table,
