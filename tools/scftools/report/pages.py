@@ -26,10 +26,8 @@ from ..ask.verdicts import Report
 from ..forms.filters import Filter
 from . import row_conditions, surface_output
 from .compare import Pair
-
 from .surface_output import Groups, StackSurface
 from .surfaces import Surface
-
 
 # What stands before conditions.
 WHERE = " where "
@@ -201,8 +199,7 @@ class ShownSurface:
         return cls(value["whole"], [ShownRow(**row) for row in value["rows"]])
 
     def as_json(self) -> dict[str, object]:
-        rows = [{"names": row.names, "said": row.said, "details": row.details} for row in self.rows]
-        return {"whole": self.whole, "rows": rows}
+        return {"whole": self.whole, "rows": [*map(vars, self.rows)]}
 
 
 @dataclass(frozen=True)

@@ -89,10 +89,6 @@ class FilterAnswers:
         self.end = self.stub_end if is_runc else FIRST_X32
 
     @property
-    def data(self) -> list[bytes]:
-        return [bpf_filter.data for bpf_filter in self.filters]
-
-    @property
     def stub_end(self) -> int:
         """The number from which on all get ENOSYS, or one that no table has."""
         stub = ((ENOSYS.word, FULL_SET),)
@@ -163,17 +159,13 @@ class FilterAnswers:
         return Comparison(self.filters, given, self.table, TURNED.get(relation, relation),
                           architecture=self.architecture.oci, elsewhere=other_abis.NAMES)
 
-    def compared(self, profile: dict[str, object], relation: str = SAME) -> tuple[Report, dict[str, int]]:
-        """scf's report on whether a profile has this relation to the filters, in each architecture that it lists, and
-        where runc's stub begins.
-
-        Raises Refusal if scf refuses the filters, the table or the limit.
-        """
-        comparison = self.comparison(profile, relation)
-        status, report = comparison.run_unchecked()
+    def compared(self, profile: dict[str, object], relation: str = SAME) -> Report:
+        """scf's report on whether a profile has this relation to the filters, in each architecture that it lists.
+        Raises Refusal if scf refuses the filters, the table or the limit."""
+        status, report = self.comparison(profile, relation).run_unchecked()
         if report.fault is not None and report.fault.source != "profile":
             raise client.Refusal(report.fault.line, status)
-        return report, comparison.right.stub
+        return report
 
     def calls(self, profile: dict[str, object], relation: str) -> list[NamedCall]:
         """The syscalls in the table of which this relation isn't proved, of a profile that scf takes."""
@@ -256,23 +248,16 @@ FARTHER = {NO_LESS: "more permissive", NO_MORE: "stricter"}
 
 @dataclass(frozen=True)
 class ProvedProfile:
-    """A profile of which scf proved how permissive it is beside the filters; the OCI names of the architectures that it
-    lists; the syscalls in the table that aren't proved to get the same answer; and by architecture the least number
-    that runc's stub answers, if the profile has one."""
+    """A profile of which scf proved how permissive it is beside the filters, and the syscalls in the table that aren't
+    proved to get the same answer."""
 
-    profile: dict[str, object]
+    profile: dict[str, Any]
     relations: tuple[str, ...]
-    architectures: Sequence[str]
     calls: Sequence[NamedCall] = ()
-    stub: dict[str, int] = field(default_factory=dict)
 
     @property
     def default(self) -> Answer:
         return Answer.of_profile(str(self.profile["defaultAction"]), self.profile.get("defaultErrnoRet"))
-
-    @property
-    def text(self) -> str:
-        return engines.printed(self.profile)
 
     @property
     def reading_remarks(self) -> list[str]:
@@ -309,9 +294,9 @@ def _same(answers: FilterAnswers) -> ProvedProfile | None:
                                         has_trap_data=answers.has_trap_data, steps=answers.steps))
     while True:
         profile = draft.profile(others)
-        report, stub = answers.compared(profile)
+        report = answers.compared(profile)
         if report.verdict is not None and report.verdict.holds:
-            return ProvedProfile(profile, (SAME,), [each.architecture.oci for each in (answers, *others)], stub=stub)
+            return ProvedProfile(profile, (SAME,))
         failing = None if report.verdict is None or report.verdict.call is None else report.verdict.call.abi
         if not others or failing == answers.architecture.oci:
             return None
@@ -327,19 +312,15 @@ def _bound(answers: FilterAnswers, relation: str) -> ProvedProfile | None:
         if not client.has_time():
             break
         profile = draft.profile()
-        report, _ = answers.compared(profile, relation)
+        report = answers.compared(profile, relation)
         if report.verdict is not None and report.verdict.holds:
             default = draft.default()
             # whether some syscall in the table may get another answer than by the filters, or isn't looked at
             differs = any(number >= answers.end for number in answers.table.numbers()) or any(
                 draft.levels.get(number) or answers.why_not(each, default) for number, each in answers.numbered(True))
-            return ProvedProfile(profile, (relation,), [answers.architecture.oci],
-                                 answers.calls(profile, SAME) if differs else [])
-        failed: Iterable[int | None]
-        if report.fault is not None:
-            failed = {number for number, number_answers in answers.numbered(True) if len(number_answers) > 1}
-        else:
-            failed = {call.number for call in answers.calls(profile, relation)}
+            return ProvedProfile(profile, (relation,), answers.calls(profile, SAME) if differs else [])
+        failed = {call.number for call in answers.calls(profile, relation)} if report.fault is None else \
+            {number for number, number_answers in answers.numbered(True) if len(number_answers) > 1}
         draft.levels.update({number: min(draft.levels.get(number, EXACT) + 1, UTMOST) for number in failed or [None]})
     return None
 
@@ -375,15 +356,17 @@ def _differences(answers: FilterAnswers, proved: ProvedProfile) -> Iterator[str]
             break
 
 
-def _covered(answers: FilterAnswers, listed: Sequence[str], count: int = 1) -> Iterator[str]:
-    """The architectures that profiles, so many, list, if several, and those others of which scf doesn't prove that the
-    filters deny every syscall."""
-    accesses = [other_abis.abi_access(answers.data, answers.regions, JUDGED[name]) for name in answers.others
+def _covered(answers: FilterAnswers, *proved: ProvedProfile) -> Iterator[str]:
+    """The architectures that profiles list, if several, and those others of which scf doesn't prove that the filters
+    deny every syscall."""
+    listed = proved[0].profile["architectures"] if proved else [answers.architecture.oci]
+    data = [bpf_filter.data for bpf_filter in answers.filters]
+    accesses = [other_abis.abi_access(data, answers.regions, JUDGED[name]) for name in answers.others
                 if name not in listed]
     others = [f"{access.describe()}; --arch {access.abi.name} prints its profile" for access in accesses
               if not access.are_denied]
     if others or len(listed) > 1:
-        who = "the profile covers" if count == 1 else "the profiles cover"
+        who = "the profile covers" if len(proved) == 1 else "the profiles cover"
         yield f"{who} {join_names(architectures.names_of(listed))} syscalls"
     yield from others
 
@@ -405,11 +388,11 @@ def _both_sides(answers: FilterAnswers, bounds: Sequence[ProvedProfile]) -> Iter
         yield f"# {UNFINISHED_TEXT.format(answers.steps.most)}"
     if answers.runtime is None and answers.stub_end != FIRST_X32:
         yield "# if runc loaded the filter, --runtime runc expects the ENOSYS that it adds"
-    yield from output.notes(_covered(answers, [answers.architecture.oci], len(bounds)))
+    yield from output.notes(_covered(answers, *bounds))
     yield from output.notes(dict.fromkeys(remark for bound in bounds for remark in bound.reading_remarks))
     for bound in bounds:
         yield from output.notes(_differences(answers, bound))
-        yield bound.text.rstrip("\n")
+        yield engines.printed(bound.profile).rstrip("\n")
     for relation in (NO_LESS, NO_MORE):
         if not any(relation in bound.relations for bound in bounds):
             yield f"# no profile was found that is {RELATION_TEXTS[relation]} than the filters"
@@ -433,9 +416,9 @@ def _of_answers(answers: FilterAnswers, relation: str) -> Result:
     """The result for filters with these answers. Raises TooMany."""
     same = _same(answers)
     if same is not None:
-        stub = [profile_inputs.stub_note(same.stub)] if same.stub else []
-        remarks = [*same.reading_remarks, *_covered(answers, same.architectures), *stub]
-        return Result(program.SUCCESS, same.text, remarks, [same])
+        stub = answers.comparison(same.profile).right.stub
+        remarks = [*same.reading_remarks, *_covered(answers, same), *([profile_inputs.stub_note(stub)] if stub else [])]
+        return Result(program.SUCCESS, engines.printed(same.profile), remarks, [same])
     if relation == SAME:
         bounds = [*filter(None, (_bound(answers, each) for each in (NO_LESS, NO_MORE)))]
         if len(bounds) == 2 and bounds[0].profile == bounds[1].profile:
@@ -443,11 +426,11 @@ def _of_answers(answers: FilterAnswers, relation: str) -> Result:
             bounds = [replace(bounds[0], relations=(NO_LESS, NO_MORE))]
         lines = list(_both_sides(answers, bounds))
         remarks = [line[2:] for line in lines if line.startswith("# ")]
-        return Result(program.UNKNOWN, bounds[0].text, remarks, bounds) if len(bounds) == 1 else \
+        return Result(program.UNKNOWN, engines.printed(bounds[0].profile), remarks, bounds) if len(bounds) == 1 else \
             Result(program.UNKNOWN, "".join(f"{line}\n" for line in lines), [], bounds)
     bound = _bound(answers, relation)
     if bound is None:
         return Result(program.UNKNOWN, "", [
             f"no profile was found that scf proves to be {RELATION_TEXTS[relation]} than the filters"])
-    remarks = [*_differences(answers, bound), *bound.reading_remarks, *_covered(answers, bound.architectures)]
-    return Result(program.SUCCESS, bound.text, remarks, [bound])
+    remarks = [*_differences(answers, bound), *bound.reading_remarks, *_covered(answers, bound)]
+    return Result(program.SUCCESS, engines.printed(bound.profile), remarks, [bound])
