@@ -12,7 +12,6 @@ from scftools.ask import client
 from scftools.ask.verdicts import OTHERWISE
 from scftools.report import pages
 from scftools.report.pages import Markup, Named, c_call, document, joined, listed, preformatted, table, tag
-from scftools.report.surface_output import Groups
 from . import audit_output
 from .audit_rows import AS_CONFIGURED, NOT_KNOWN, STRICTER, UNIT, WEAKER, Audit, AuditRow, RowPart, StackJudgement
 
@@ -141,16 +140,15 @@ def _since(audit: Audit, earlier: audit_output.Earlier | None) -> Iterator[Marku
 
 
 def _stacks(audit: Audit, table_of: Table) -> Iterator[Markup]:
-    groups = Groups()
     stacks = [Named(f"stack {at}", audit.surfaces.get(digest), stack.description, digest)
               for at, (digest, stack) in enumerate(audit.stacks.items())]
     if not stacks:
         return
-    yield from pages.matrix(stacks, groups)
+    yield from pages.matrix(stacks)
     yield from pages.dangerous(stacks, table_of)
     yield tag("h2", "Distinct stacks")
     for stack in stacks:
-        yield from pages.stack(stack, groups)
+        yield from pages.stack(stack)
 
 
 def page(audit: Audit, table_of: Table, earlier: audit_output.Earlier | None = None) -> str:

@@ -26,7 +26,7 @@ from ..ask.verdicts import Report
 from ..forms.filters import Filter
 from . import row_conditions, surface_output
 from .compare import Pair
-from .surface_output import Groups, StackSurface
+from .surface_output import StackSurface
 from .surfaces import Surface
 
 # What stands before conditions.
@@ -226,7 +226,7 @@ def _cell(rows: Sequence[ShownRow]) -> str:
     return f"some: {', '.join(shown + [f'{unknown} not known'] * bool(unknown)) or 'denied'} of {len(rows)}"
 
 
-def stack(named: Named, groups: Groups) -> Iterator[Markup]:
+def stack(named: Named) -> Iterator[Markup]:
     """All syscalls of a stack, group by group, each with what decides."""
     yield tag("h3", f"{named.name}: ", named.description, id=named.anchor)
     if named.digest is not None:
@@ -235,21 +235,20 @@ def stack(named: Named, groups: Groups) -> Iterator[Markup]:
         yield tag("p", "It isn't known: scf refuses this stack, or looking at it takes too long.")
         return
     yield listed(named.shown.whole)
-    for group, rows in surface_output.grouped(named.shown.rows, groups):
+    for group, rows in surface_output.grouped(named.shown.rows).items():
         calls = listed(joined([tag("code", " or ".join(row.names)), " ", "; ".join(
             [row.said] * (row.by_conditions is None) + list(row.details))]) for row in rows)
         yield tag("details", tag("summary", f"{group}: {_cell(rows)}"), tag("div", calls, id=f"{named.anchor}-{group}"))
 
 
-def matrix(stacks: Sequence[Named], groups: Groups) -> Iterator[Markup]:
+def matrix(stacks: Sequence[Named]) -> Iterator[Markup]:
     """Groups of syscalls by stacks."""
     yield tag("h2", "Groups of syscalls by stack")
-    by_stack = [dict(surface_output.grouped(named.shown.rows, groups)) if named.shown is not None else {}
-                for named in stacks]
+    by_stack = [surface_output.grouped(named.shown.rows if named.shown is not None else ()) for named in stacks]
     head = ["group", *(tag("a", named.name, href=f"#{named.anchor}") for named in stacks)]
     lines = [[group, *(tag("a", _cell(rows[group]), href=f"#{named.anchor}-{group}") if group in rows else DENIED
                        for named, rows in zip(stacks, by_stack))]
-             for group in groups.order if any(group in rows for rows in by_stack)]
+             for group in surface_output.grouped(row for rows in by_stack for its in rows.values() for row in its)]
     yield table(head, lines, "scroll")
 
 
@@ -279,7 +278,7 @@ def dangerous(stacks: Sequence[Named], table_of: Table) -> Iterator[Markup]:
 
 def surfaces_page(blocks: Sequence[StackSurface], table_of: Table, beside: Sequence[Filter]) -> str:
     """The page of the stacks of `scf surface`, and those that they are compared with."""
-    groups, blocks, stacks = Groups(), [block for block in blocks if block.filters], []
+    blocks, stacks = [block for block in blocks if block.filters], []
     for at, block in enumerate(blocks):
         sides = [("", block.filters, block.surface)]
         if block.beside is not None:
@@ -291,5 +290,5 @@ def surfaces_page(blocks: Sequence[StackSurface], table_of: Table, beside: Seque
     return document("What these filters allow", tag("h1", "What these filters allow"), *_made_by(),
                     tag("p", "scf has proved for all x86-64 syscalls and arguments what is allowed, delegated or "
                              "denied, and under which conditions.", class_="faint"), *dangerous(stacks, table_of),
-                    *matrix(stacks, groups), tag("h2", "Syscalls by stack"),
-                    *(piece for named in stacks for piece in stack(named, groups)))
+                    *matrix(stacks), tag("h2", "Syscalls by stack"),
+                    *(piece for named in stacks for piece in stack(named)))

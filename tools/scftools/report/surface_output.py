@@ -35,18 +35,14 @@ ALWAYS_COUNTED = (ALLOWED, DEPENDS, DENIED)
 OTHER_GROUP = "other"
 
 
-class Groups:
-    """The purposes of syscalls (tables/calls.groups names its sources): the group of each name, the groups in order."""
+@functools.lru_cache(None)
+def groups() -> dict[str, str]:
+    """The purposes of syscalls (tables/calls.groups names its sources): the group of each name, in order."""
+    return {name: group for group, *names in map(str.split, program.table_lines("calls.groups")) for name in names}
 
-    def __init__(self) -> None:
-        self.of_names: dict[str, str] = {}
-        for group, *names in map(str.split, program.table_lines("calls.groups")):
-            self.of_names.update((name, group) for name in names)
-        self.order = [*dict.fromkeys(self.of_names.values()), OTHER_GROUP]
 
-    def of_call(self, names: Iterable[str]) -> str:
-        """The group of a syscall with these names."""
-        return next((self.of_names[name] for name in names if name in self.of_names), OTHER_GROUP)
+def group_of(row: Any) -> str:
+    return next((groups()[name] for name in row.names if name in groups()), OTHER_GROUP)
 
 
 def dangers(surface: Surface) -> list[dict[str, Any]]:
@@ -128,12 +124,12 @@ def details(row: Row, is_in_table: bool = False) -> list[str]:
     return [row.answer.named() if is_in_table else str(row.answer)] if row.answer else []
 
 
-def grouped(rows: Iterable[Row], groups: Groups) -> list[tuple[str, list[Row]]]:
+def grouped(rows: Iterable[Any]) -> dict[str, list[Any]]:
     """The rows of each group, in the order of the groups; empty groups are left out."""
-    rows_of_groups: dict[str, list[Row]] = {group: [] for group in groups.order}
+    rows_of_groups: dict[str, list[Any]] = {group: [] for group in (*groups().values(), OTHER_GROUP)}
     for row in rows:
-        rows_of_groups[groups.of_call(row.names)].append(row)
-    return [(group, members) for group, members in rows_of_groups.items() if members]
+        rows_of_groups[group_of(row)].append(row)
+    return {group: members for group, members in rows_of_groups.items() if members}
 
 
 def _cell(rows: Sequence[Row], width: int) -> list[str]:
@@ -149,14 +145,13 @@ def _cell(rows: Sequence[Row], width: int) -> list[str]:
     return lines
 
 
-def _in_columns(groups: Sequence[tuple[str, dict[str, Callable[[int], list[str]]]]], next_to: int,
-                width: int) -> Iterator[str]:
+def _in_columns(cells: dict[str, dict[str, Callable[[int], list[str]]]], next_to: int, width: int) -> Iterator[str]:
     """Groups of cells, each behind its group and a word, which may be empty, in a column that is so wide; or below
     these, where it would be narrow."""
-    before = max((len(group) for group, _ in groups), default=0) + 2
+    before = max(map(len, cells), default=0) + 2
     is_narrow = width - before - next_to < LEAST_WIDTH
-    for heading, cells in groups:
-        for word, lines_of in cells.items():
+    for heading, by_word in cells.items():
+        for word, lines_of in by_word.items():
             if is_narrow:
                 indent = "  " if word else " "
                 yield from filter(None, [heading, word and f" {word}"])
@@ -168,21 +163,20 @@ def _in_columns(groups: Sequence[tuple[str, dict[str, Callable[[int], list[str]]
             heading = ""
 
 
-def _row_lines(rows: Sequence[Row], groups: Groups, width: int | None) -> Iterator[str]:
+def _row_lines(rows: Sequence[Row], width: int | None) -> Iterator[str]:
     """The syscalls of each group: a line for each, or by disposition as a table."""
-    by_group = grouped(rows, groups)
+    by_group, cells = grouped(rows), {}
     if width is None:
         return (" ".join([group, row.said, str(row.number), ",".join(row.names), *details(row)])
-                for group, members in by_group for row in members)
-    cells = []
-    for group, members in by_group:
+                for group, members in by_group.items() for row in members)
+    for group, members in by_group.items():
         alike = {word: [row for row in members if row.said == word] for word in ROW_WORDS}
-        cells.append((group, {word: functools.partial(_cell, its) for word, its in alike.items() if its}))
+        cells[group] = {word: functools.partial(_cell, its) for word, its in alike.items() if its}
     return _in_columns(cells, max(map(len, ROW_WORDS)) + 2, width)
 
 
-def row_json(row: Row, groups: Groups) -> dict[str, object]:
-    members: dict[str, object] = {"number": row.number, "names": row.names, "group": groups.of_call(row.names),
+def row_json(row: Row) -> dict[str, object]:
+    members: dict[str, object] = {"number": row.number, "names": row.names, "group": group_of(row),
                                 "disposition": row.said}
     if row.shown:
         members["examples"] = {disposition: shown.as_json() for disposition, shown in row.shown.items()}
@@ -201,13 +195,13 @@ def _counts_json(surface: Surface) -> dict[str, object]:
     return {"architecture": surface.asker.architecture.name, "counts": {word: counts[word] for word in ROW_WORDS}}
 
 
-def surface_json(surface: Surface, groups: Groups) -> dict[str, object]:
+def surface_json(surface: Surface) -> dict[str, object]:
     others, machines = [_counts_json(beside) for beside in surface.others], surface.other_machines
     return {**_counts_json(surface), **({"other_abis": others} if others else {}),
             **({"is_for": [architecture.name for architecture in machines]} if machines else {}),
             "foreign": [access.as_json() for access in surface.foreign],
             "unnamed": surface.unnamed.as_json(), "dangerous": dangers(surface),
-            "calls": [row_json(row, groups) for row in surface.rows]}
+            "calls": [*map(row_json, surface.rows)]}
 
 
 @dataclass(frozen=True)
@@ -243,9 +237,9 @@ class Pair:
         """Both sides, each with its examples."""
         return [" ".join([row.said, *details(row, is_in_table)]) for row in self.rows]
 
-    def as_json(self, groups: Groups) -> dict[str, object]:
+    def as_json(self) -> dict[str, object]:
         verdict, (row, row_beside) = self.line.verdict, self.rows
-        members = {"filter": row_json(row, groups), BESIDE: row_json(row_beside, groups), "verdict": verdict.word}
+        members = {"filter": row_json(row), BESIDE: row_json(row_beside), "verdict": verdict.word}
         if None not in (verdict.call, verdict.filters, verdict.profile):
             members["example"] = {"arguments": [*map(hex, verdict.call.arguments)],
                                   "filter": verdict.filters.as_json(), BESIDE: verdict.profile.as_json()}
@@ -302,7 +296,7 @@ def _pair_cell(pairs: Sequence[Pair], width: int) -> list[str]:
     return lines
 
 
-def lines_beside(beside: Beside, groups: Groups, width: int | None) -> Iterator[str]:
+def lines_beside(beside: Beside, width: int | None) -> Iterator[str]:
     """The text output for two surfaces."""
     undecided = sum(not pair.is_decided for pair in beside.pairs)
     count = f"syscalls that differ: {len(beside.pairs) - undecided}" + f", undecided: {undecided}" * (undecided > 0)
@@ -310,13 +304,13 @@ def lines_beside(beside: Beside, groups: Groups, width: int | None) -> Iterator[
     whole = [text for at, (line, other) in enumerate(zip(*map(whole_lines, beside.sides)))
              for text in [line, *[f"{BESIDE}: {other}"] * (at == 0 or line != other)]]
     yield from fitted([*whole, count], width)
-    by_group = grouped(beside.pairs, groups)
+    by_group = grouped(beside.pairs)
     if width is None:
         yield from (" ".join(filter(None, [group, str(pair.number), ",".join(pair.names),
                                            f" {BESIDE} ".join(pair.texts(False)), pair.example]))
-                    for group, pairs in by_group for pair in pairs)
+                    for group, pairs in by_group.items() for pair in pairs)
     else:
-        cells = [(group, {"": functools.partial(_pair_cell, pairs)}) for group, pairs in by_group]
+        cells = {group: {"": functools.partial(_pair_cell, pairs)} for group, pairs in by_group.items()}
         yield from _in_columns(cells, 0, width)
     for subject, differ in (("numbers without a name", beside.unnamed_differ),
                             ("syscalls of other ABIs", beside.foreign_differ)):
@@ -346,9 +340,9 @@ class StackSurface:
         if self.surface is None:
             return []
         if self.beside is not None:
-            return lines_beside(self.beside, Groups(), width)
+            return lines_beside(self.beside, width)
         return [*fitted([*whole_lines(self.surface), *danger_lines(self.surface)], width),
-                *_row_lines(self.surface.rows, Groups(), width)]
+                *_row_lines(self.surface.rows, width)]
 
     def _members(self) -> dict[str, object]:
         if self.fault is not None:
@@ -356,9 +350,9 @@ class StackSurface:
                     "files": refusals.faulty_filters(self.filters, self.fault)}
         if self.surface is None:
             return {}
-        groups, beside = Groups(), self.beside
-        return {**surface_json(self.surface, groups), **({} if beside is None else {"beside": {
-            **surface_json(beside.sides[1], groups), "differs": [pair.as_json(groups) for pair in beside.pairs],
+        beside = self.beside
+        return {**surface_json(self.surface), **({} if beside is None else {"beside": {
+            **surface_json(beside.sides[1]), "differs": [pair.as_json() for pair in beside.pairs],
             "foreign_differ": beside.foreign_differ, "unnamed_differ": beside.unnamed_differ}})}
 
 

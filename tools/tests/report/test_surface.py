@@ -726,7 +726,7 @@ class Groups(unittest.TestCase):
         names = [name for line in lines for name in line[1:]]
         self.assertEqual(sorted(names), sorted(tables.read_table(None).names()))
         self.assertEqual(len(set(names)), len(names))
-        self.assertEqual(surface_output.Groups().order, [*dict.fromkeys(line[0] for line in lines), "other"])
+        self.assertEqual([*surface_output.groups().items()], [(name, line[0]) for line in lines for name in line[1:]])
         self.assertTrue(all(len(" ".join(line)) <= 120 for line in lines))
 
     @unittest.skipUnless(shutil.which("systemd-analyze"), "there is no systemd-analyze here")
