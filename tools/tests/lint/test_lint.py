@@ -1,6 +1,5 @@
 """tools/lint: each kind of finding where it is, and its absence at the border; what is said as proved, beside scf and
 the running kernel."""
-import contextlib
 import json
 import os
 import random
@@ -10,6 +9,8 @@ import sys
 
 from support import seccomp_library
 from support.common import LOADER, TABLE, TOP, bytes_of, comes, completed, part, profile_of, taken, text_of
+from support.oci import ALLOW, ERRNO, NATIVE, X32, entry
+from support.oci import X86 as I386
 from support.stand_in import StandIn
 from base.test_output import HOSTILE
 from forms.test_runtimes import MOBY, PODMAN
@@ -22,22 +23,12 @@ from scftools.ask import client
 from scftools.lint import oddities, watchlist
 from scftools.lint.findings import FINDING_KINDS
 
-ALLOW, ERRNO, TOP_OF = "SCMP_ACT_ALLOW", "SCMP_ACT_ERRNO", (1 << 64) - 1
-NATIVE, I386, X32, AARCH64, ARM = (f"SCMP_ARCH_{it}" for it in ("X86_64", "X86", "X32", "AARCH64", "ARM"))
+TOP_OF, AARCH64, ARM = (1 << 64) - 1, "SCMP_ARCH_AARCH64", "SCMP_ARCH_ARM"
 # What the list of an engine names on x86-64; and the first value that no argument of 32 bits has.
 ENGINES, WIDE = [NATIVE, I386, X32], 1 << 32
 ACTIONS = ("ALLOW", "LOG", "ERRNO", "TRACE", "TRAP", "NOTIFY", "KILL", "KILL_THREAD", "KILL_PROCESS")
 TABLE_TEXT = bytes_of(TABLE)
 TABLE_NAMES = [*tables.Table(TABLE_TEXT).names()]
-
-
-def entry(*names, action=ALLOW, args=(), **members):
-    found = {"names": list(names), "action": action, **members}
-    if args:
-        found["args"] = [arg if isinstance(arg, dict) else
-                         dict(zip(("index", "op", "value", "valueTwo"), (arg[0], f"SCMP_CMP_{arg[1]}", *arg[2:])))
-                         for arg in args]
-    return found
 
 
 def profile(*entries, default=ERRNO, **members):
@@ -94,12 +85,6 @@ class Usage(Linted):
         without = ("--except", "unknown-name", "--except=default-allows", "--except=dangerous-call")
         self.assertEqual(self.run_lint(odd, "--strict", *without), (0, "# no findings\n", ""))
         self.is_refusal("invalid choice", self.run_lint(odd, "--except", "everything"))
-
-    def test_lines_and_json_say_the_same(self):
-        self.assertGreater(len(self.report(profile(
-            entry("reed", "mkdir", "mkdir", action=ERRNO, errnoRet=600, arg=1), entry("ptrace", "poll"),
-            entry("socket", args=[(0, "NE", 40)]), entry("dup", args=[(1, "GE", 0)]), entry("mkdirat"),
-            architectures=["SCMP_ARCH_X86_64", "x"], flags=["y"]))["findings"]), 11)
 
     def test_inputs(self):
         given = json.dumps(profile(entry("reed")))
@@ -210,7 +195,7 @@ class Members(Linted):
                   ([entry("read", flags=["SECCOMP_FILTER_FLAG_LOG"])], {}, [(0, "flags", None)]),
                   ([entry("read")], {"defaultErno": "EPERM"}, [(None, "defaultErno", "defaultErrnoRet")]),
                   ([entry("read", args=[slip])], {}, [(0, "valueTow", "valueTwo")]),
-                  ([entry("read", comment="c", errnoRet=None, args=None, includes={}, excludes={}),
+                  ([{**entry("read", comment="c", errnoRet=None, includes={}, excludes={}), "args": None},
                     entry("write", action=ERRNO, errnoRet=2)], is_read, []), ([entry("read", arg=None)], {}, []))
 
     def test_the_second_value_is_that_of_masks(self):
@@ -243,19 +228,15 @@ class Members(Linted):
             self.run_lint({"defaultAction": ERRNO, "syscalls": [{"names": ["read"], "Action": ALLOW}]})))
 
     def test_members_that_stand_twice(self):
-        text = b'{"defaultAction":"SCMP_ACT_ERRNO","syscalls":[{"names":["read"],"action":"SCMP_ACT_LOG",' \
-               b'"action":"SCMP_ACT_ALLOW"}]}'
+        """The last is taken; a second list's entries are decoded into those of the first (Decoder in encoding/json)."""
+        default = b'{"defaultAction":"SCMP_ACT_ERRNO"'
+        text = default + b',"syscalls":[{"names":["read"],"action":"SCMP_ACT_LOG","action":"SCMP_ACT_ALLOW"}]}'
         found = self.found(text, kinds=self.KINDS)
         self.assertEqual([(it["kind"], it["entry"], it["member"]) for it in found], [("repeated-member", 0, "action")])
         self.assertTrue(found[0]["text"].endswith(": action is repeated, and the last one is taken"))
-        # the last is taken
         self.assertEqual(self.run_tool("ask", "--nr=0", self.file("q.json", text))[1].split("\n")[0], "ALLOW 0 entry 0")
-
-    def test_lists_that_stand_twice(self):
-        """A second list's entries are decoded into those of the first (Decoder in encoding/json)."""
-        for text, is_list in ((b'{"defaultAction":"SCMP_ACT_ERRNO","syscalls":[],"syscalls":[]}', True),
-                              (b'{"defaultAction":"SCMP_ACT_ERRNO","flags":[],"flags":[]}', False)):
-            found = self.found(text, kinds=self.KINDS)
+        for member, is_list in ((b',"syscalls":[]', True), (b',"flags":[]', False)):
+            found = self.found(default + member * 2 + b"}", kinds=self.KINDS)
             self.assertEqual(["programs in Go keep" in it["text"] for it in found], [is_list])
 
 
@@ -349,34 +330,6 @@ class Dangerous(Linted):
         self.assertEqual(self.made(profile(entry("ptrace", args=[(0, "LT", 0)]))), [])
 
 
-# Runs each syscall of a list in a child of its own, behind a raw filter: a child whose syscall ends tells its errno.
-CHILDREN = LOADER + """
-kept = []
-def value(it):
-    if not isinstance(it, str):
-        return ctypes.c_ulong(it & 2**64 - 1)
-    kept.append(ctypes.create_string_buffer(bytes.fromhex(it)))
-    return kept[-1]
-for number, *args in json.loads(sys.argv[2]):
-    pid = os.fork()
-    if pid:
-        print(pid, flush=True)
-        continue
-    args = [value(it) for it in args]
-    if load(bytes.fromhex(sys.argv[1])):
-        os._exit(255)
-    ctypes.set_errno(0)
-    found = library.syscall(ctypes.c_long(number), *args)
-    # an errno is told by a file, an exit's status has but 8 bits
-    with open(f"{sys.argv[3]}/{os.getpid()}.new", "w") as file:
-        file.write(f"{found} {ctypes.get_errno()}")
-    os.rename(file.name, file.name[:-4])
-    os._exit(0)
-for line in sys.stdin:
-    pass
-"""
-
-
 class Running(Linted):
     """Syscalls in processes of this kernel, behind the filter of a profile."""
 
@@ -389,39 +342,40 @@ class Running(Linted):
         text = json.dumps(given).encode()
         return client.run_scf(["compile"], part("profile", text) + part("table", TABLE_TEXT)).out
 
-    def start(self, given, calls):
-        """The processes that make these syscalls, each a number and arguments, a text being a buffer's bytes."""
-        child = subprocess.Popen([sys.executable, "-IS", "-c", CHILDREN, self.compiled(given).hex(), json.dumps(calls),
-                                  self.folder], stdin=subprocess.PIPE, stdout=subprocess.PIPE)
-        pids = [int(child.stdout.readline()) for _ in calls]
-        self.addCleanup(self.end, child, pids)
-        return pids
-
-    @staticmethod
-    def end(child, pids):
-        for pid in pids:
-            with contextlib.suppress(ProcessLookupError):
-                os.kill(pid, 9)
-        child.stdin.close()
-        child.stdout.close()
-        child.wait()
-
-    def result(self, pid):
-        """What a process's syscall returned, and its errno; None where it goes on."""
-        path = os.path.join(self.folder, str(pid))
-        if not os.path.exists(path):
-            return None
-        return tuple(map(int, text_of(path).split()))
-
-    @staticmethod
-    def is_in(pid, number, state):
-        found = text_of(f"/proc/{pid}/stat").rpartition(") ")[2][0]
-        return found == state and (state != "S" or text_of(f"/proc/{pid}/syscall").split()[0] == str(number))
+    def run_python(self, given, code):
+        """How a Python ends that runs this code behind the filter of a profile."""
+        text = f"{LOADER}import signal\nassert load({self.compiled(given)!r}) == 0\n{code}"
+        return completed([sys.executable, "-IS", "-c", text])
 
     def results(self, given, calls):
-        pids = self.start(given, calls)
-        self.assertTrue(comes(lambda: all(map(self.result, pids))))
-        return [self.result(pid) for pid in pids]
+        """What syscalls return, each a number and arguments, and their errnos."""
+        code = (f"for call in {calls}:\n    ctypes.set_errno(0)\n"
+                "    print(library.syscall(*map(ctypes.c_ulong, call)), ctypes.get_errno())")
+        return [tuple(map(int, line.split())) for line in self.run_python(given, code).stdout.splitlines()]
+
+
+# Makes each syscall of a list, whose texts are the bytes of buffers, in a child of its own, behind a raw filter, and
+# prints the child's number; at the end of its input how each ended: by its errno, or killed.
+CHILDREN = LOADER + """
+kept, pids = [], []
+def value(it):
+    if not isinstance(it, str):
+        return ctypes.c_ulong(it & 2**64 - 1)
+    kept.append(ctypes.create_string_buffer(bytes.fromhex(it)))
+    return kept[-1]
+for number, *args in json.loads(sys.argv[2]):
+    pids.append(os.fork())
+    if not pids[-1]:
+        args = [value(it) for it in args]
+        ctypes.set_errno(255 if load(bytes.fromhex(sys.argv[1])) else 0)
+        library.syscall(ctypes.c_long(number), *args)
+        os._exit(ctypes.get_errno())
+    print(pids[-1], flush=True)
+sys.stdin.read()
+for pid in pids:
+    os.kill(pid, 9)
+    print(os.waitpid(pid, 0)[1])
+"""
 
 
 def seconds(count):
@@ -442,24 +396,30 @@ class Restart(Running):
              ("futex", "without end", "00000000", 0, 0, 0, 0, 0), ("pause", ""),
              ("rt_sigtimedwait", "", "00" * 8, 0, LONG, 8))
 
-    def denied(self, **members):
-        return profile(entry("restart_syscall", action=ERRNO, errnoRet=77, **members), default=ALLOW)
+    @staticmethod
+    def is_in(pid, number, states):
+        found = text_of(f"/proc/{pid}/stat").rpartition(") ")[2][0]
+        return found in states and (found != "S" or text_of(f"/proc/{pid}/syscall").split()[0] == str(number))
 
     def test_what_the_kernel_restarts(self):
-        table, given, waits = tables.read_table(TABLE), self.denied(), self.WAITS
+        table, waits = tables.read_table(TABLE), self.WAITS
+        given = profile(entry("restart_syscall", action=ERRNO, errnoRet=77), default=ALLOW)
         numbers = [table.number_of(name) for name, *_ in waits]
-        pids = self.start(given, [(number, *args) for number, (_, _, *args) in zip(numbers, waits)])
+        calls = [(number, *args) for number, (_, _, *args) in zip(numbers, waits)]
+        child = subprocess.Popen([sys.executable, "-IS", "-c", CHILDREN, self.compiled(given).hex(),
+                                  json.dumps(calls)], stdin=subprocess.PIPE, stdout=subprocess.PIPE)
+        self.addCleanup(child.communicate)
+        pids = [int(child.stdout.readline()) for _ in calls]
         for pid, number in zip(pids, numbers):
             self.assertTrue(comes(lambda pid=pid, number=number: self.is_in(pid, number, "S")), number)
         for pid in pids:
             os.kill(pid, 19)
             self.assertTrue(comes(lambda pid=pid: self.is_in(pid, None, "T")))
             os.kill(pid, 18)
-        restarted = set()
-        for pid, number, (name, what, *_) in zip(pids, numbers, waits):
-            self.assertTrue(comes(lambda pid=pid, number=number: self.result(pid) or self.is_in(pid, number, "S")))
-            if self.result(pid) == (-1, 77):
-                restarted.add((name, what))
+        for pid, number in zip(pids, numbers):
+            self.assertTrue(comes(lambda pid=pid, number=number: self.is_in(pid, number, "SZ")))
+        ended = child.communicate()[0].split()
+        restarted = {(name, what) for status, (name, what, *_) in zip(ended, waits) if int(status) == 77 << 8}
         self.assertEqual(restarted, {("nanosleep", ""), ("clock_nanosleep", ""), ("poll", ""), ("poll", "without end"),
                                      ("futex", ""), ("futex", "bits")})
         self.assertEqual({name for name, _ in restarted},
@@ -491,11 +451,6 @@ class Restart(Running):
 
 class Partners(Running):
     """Syscalls that others need, in processes of this machine's libc."""
-
-    def run_python(self, given, code):
-        """How a Python ends that runs this code behind the filter of a profile."""
-        text = f"{LOADER}import signal\nassert load({self.compiled(given)!r}) == 0\n{code}"
-        return completed([sys.executable, "-IS", "-c", text])
 
     def lacking(self, given, kind):
         return [it.get("names") or it["name"] for it in self.found(given, kinds=(kind,))]
@@ -885,22 +840,17 @@ class Several(Linted):
         later, twice = [entry("read"), entry("read", "waitpid")], [entry("waitpid"), entry("waitpid")]
         halves = [entry("umask", args=[(0, "LT", WIDE)]), entry("umask")]
         wide = [entry("umask", args=[(0, "GE", WIDE)])]
+        # the last entry has all but 7, and what no other entry has, such as 500
+        most = [("EQ", it) for it in range(6, 18)] + [("LE", 5), ("GE", 1000), ("NE", 7)]
         self.effects(*((entries, {"architectures": architectures}, expected) for entries, architectures, expected in (
             (later, [NATIVE], [(1, False, 0)]), (later, ENGINES, [(0, True, 1)]), (twice, [NATIVE, X32], []),
             (twice, ENGINES, [(1, True, 0)]), ([entry("read"), entry("waitpid")], ENGINES, []),
             (halves, [NATIVE], [(0, True, 1)]), (halves, ENGINES, [(0, True, 1)]),
             (halves, [AARCH64, ARM], [(0, True, 1)]), (halves, [I386], [(1, True, 0)]), (wide, ENGINES, []),
-            (wide, [I386, X32, ARM], [(0, True, "none")]))))
-
-    def test_entries_that_are_covered_on_all(self):
-        halves = entry("read", args=[(0, "LT", 5)]), entry("read", args=[(0, "GE", 5)])
-        # the last entry has all but 7, and what no other entry has, such as 500
-        most = [("EQ", it) for it in range(6, 18)] + [("LE", 5), ("GE", 1000), ("NE", 7)]
-        self.effects(*((entries, {"architectures": ENGINES}, expected) for entries, expected in (
-            ([entry("read", "write"), entry("read")], [(1, True, 0)]),
-            ([*halves, entry("read")], [(2, True, "together")]),
-            ([entry("read", action=ERRNO)], [(0, True, "default")]),
-            ([entry("read", args=[(0, *it)]) for it in most],
+            (wide, [I386, X32, ARM], [(0, True, "none")]),
+            ([entry("read", args=[(0, it, 5)]) for it in ("LT", "GE")] + [entry("read")], ENGINES,
+             [(2, True, "together")]),
+            ([entry("read", args=[(0, *it)]) for it in most], ENGINES,
              [(at, True, 14) for at in range(14) if most[at] != ("EQ", 7)]))))
 
     def test_a_dangerous_call_on_one_of_them(self):

@@ -8,7 +8,9 @@ def condition(index, op, value, two=0):
 
 
 def entry(*names, action=ALLOW, args=(), **members):
-    return {"names": list(names), "action": action, **({"args": list(args)} if args else {}), **members}
+    """An entry, with conditions, or what these are made of."""
+    args = [condition(*arg) if isinstance(arg, tuple) else arg for arg in args]
+    return {"names": list(names), "action": action, **({"args": args} if args else {}), **members}
 
 
 def profile(*entries, default=ERRNO, architectures=(NATIVE, X86, X32), **members):
