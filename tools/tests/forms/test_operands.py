@@ -69,6 +69,7 @@ class Processes(Confined):
                               (["decide", "--expect", self.file("rows", "read = ALLOW\n"), word],
                                "# rows: 1; answered otherwise than expected: 0\n"),
                               (["surface", "--regions", word], "ERRNO 1 (EPERM) at 1:2: "),
+                              (["surface", word], "allowed 383, depends 0, denied 0\ni386: allowed 461"),
                               (["profile-of", "--arch", "x86_64", word], "")):
             with self.subTest(words):
                 status, out, _ = self.run_tool(*words)

@@ -7,7 +7,7 @@ from unittest import mock
 
 from support import several
 from support.common import (ALLOW, EPERM, KILL_PROCESS, KILL_THREAD, LOG, TOP, TRACE, TRAP, USER_NOTIF, X32, X86_64,
-                            Case, completed, gate, insn, jeq, jge, jgt, jset, load, ret, text_of, tool)
+                            Case, gate, insn, jeq, jge, jgt, jset, load, ret, text_of)
 from support.judged import by_disposition
 from support.seccomp_library import NEEDED, Library
 from support.stand_in import StandIn, unpacked
@@ -29,20 +29,6 @@ HOLDS = {f"SCMP_CMP_{name}": holds for name, holds in several.OPERATORS.items()}
 def of_numbers(codes, default):
     """Answers each of these numbers by a piece of code, and all others so."""
     return gate(b"".join(jeq(number, 0, len(code) // 8) + code for number, code in codes.items()) + ret(default))
-
-
-def answer_of_profile(profile, name, arguments):
-    """The word that a profile answers to a syscall; an answer of two entries is one, since they don't conflict."""
-    def word(action, errno):
-        action = action.removeprefix("SCMP_ACT_")
-        return several.ACTIONS[action] | (errno if errno is not None else 1 if action in ("ERRNO", "TRACE") else 0)
-
-    answers = {word(entry["action"], entry.get("errnoRet")) for entry in profile["syscalls"] if name in entry["names"]
-             and all(HOLDS[condition["op"]](arguments[condition["index"]], condition["value"],
-                                            condition.get("valueTwo", 0))
-                     for condition in entry.get("args", ()))}
-    assert len(answers) < 2, answers
-    return answers.pop() if answers else word(profile["defaultAction"], profile.get("defaultErrnoRet"))
 
 
 def has_trap_data(profile):
@@ -150,10 +136,10 @@ class Drawn:
             high = self.random.choice((0, 0, 0, 0xFFFFFFFF, *words[:4], self.random.choice(words)))
             return high << 32 | self.random.choice((self.random.choice(words), self.random.getrandbits(32)))
 
-        for name, number in NAMES.items():
+        for number in NAMES.values():
             for _ in range(100):
                 arguments = tuple(argument() for _ in range(3)) + (0, 0, 0)
-                yield name, Call(number, X86_64, self.random.choice((0, self.random.getrandbits(64))), arguments)
+                yield Call(number, X86_64, self.random.choice((0, self.random.getrandbits(64))), arguments)
 
 
 def entry(answer, *names, **condition):
@@ -189,12 +175,12 @@ class Profiles(Case):
         words = (*runtime, "--table", self.table, *self.filter_files(filters), profile)
         self.assertEqual(self.run_tool("compare", *words)[:2], (0, "same\n"))
 
-    def is_judged(self, filters, profile, holds, records):
-        """The relation between the words of the filters and of the profile, at each record."""
-        for name, call in records:
-            ours = StandIn().decision(filters, call)
-            theirs = answer_of_profile(profile, name, call.arguments)
-            self.assertTrue(holds(ours, theirs), (name, call, hex(ours), hex(theirs), profile))
+    def is_judged(self, filters, profile, holds, calls):
+        """The relation between the words of the filters and of the profile, at each call."""
+        reading = several.Reading(profile, [NATIVE], {NATIVE: NAMES})
+        for call in calls:
+            ours, theirs = StandIn().decision(filters, call), reading.answer(X86_64, call.number, call.arguments)[0]
+            self.assertTrue(holds(ours, theirs), (call, hex(ours), hex(theirs), profile))
 
     def test_drawn(self):
         """The profile answers as the filters, or one is nowhere stricter and the other nowhere more permissive."""
@@ -350,7 +336,7 @@ class Profiles(Case):
             ("personality", None), ("personality", 1), ("personality", 4), ("socket", None), ("socket", 2))}
         self.assertEqual(list(counts.values()), [1, 2, 63, 2, 33])
         self.is_judged(filters, profile, operator.eq, (
-            (name, Call(NAMES[name], X86_64, 0, (value ^ 1 << low ^ 1 << high, *[0] * 5)))
+            Call(NAMES[name], X86_64, 0, (value ^ 1 << low ^ 1 << high, *[0] * 5))
             for name in ("personality", "socket") for value in (of_pthread, MOST, 0, vm, thread)
             for high in range(64) for low in range(high + 1)))
 
@@ -643,14 +629,6 @@ class OtherArchitectures(Case):
                     said=["the profile covers x86-64, i386 and x32 syscalls",
                           "runc answers the numbers from 440 on, of i386 from 440 on and of x32 from 521 on, above all "
                           "that the profile names, with ENOSYS"])
-
-    def test_compiled(self):
-        """A filter that scf compiles of a profile for several architectures is read back for all of them."""
-        profile = {"defaultAction": "SCMP_ACT_ERRNO", "architectures": list(several.ARCHITECTURES), "syscalls": [
-            entry("ALLOW", "read", "stat64", "waitpid"),
-            entry("ALLOW", "personality", index=0, value=8, op="SCMP_CMP_EQ")]}
-        done = completed([tool("compile"), self.file("p.json", profile)], check=True)
-        self.covers(done.stdout, profile["architectures"], *profile["syscalls"], said=[EACH])
 
     @mock.patch.dict(several.ARCHITECTURES, WITH_TABLES)
     @mock.patch.object(several, "NAMES", sorted({name for row in WITH_TABLES.values() for name in row[5]}))

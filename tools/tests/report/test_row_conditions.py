@@ -141,7 +141,7 @@ class Lines(Case):
             out = json.loads(self.shown(filters, "--json")[1])
             rows = {row["number"]: row["conditions"] for row in out["calls"] if "conditions" in row}
             seen += len(rows)
-            for _, call in drawn.records(filters):
+            for call in drawn.records(filters):
                 if call.number in rows:
                     ours = answers.Answer.read(StandIn().decide(filters, call))
                     theirs = self.answer_of(rows[call.number], call.arguments)

@@ -566,15 +566,17 @@ class Terminal(Case):
 class Beside(Case):
     """Two surfaces beside each other."""
 
-    def pairs(self, name, name_beside):
-        beside = surface_output.compared_surfaces(surface_of(name), surface_of(name_beside))
+    @staticmethod
+    def compared(*sides):
+        """The status, and the numbers of the syscalls that differ with what is said of each side."""
+        beside = surface_output.compared_surfaces(*sides)
         return beside.status, [(pair.number, *(row.said for row in pair.rows)) for pair in beside.pairs], beside
 
     def test_each_two(self):
         """The syscalls whose answers differ are told, and no others: in all 32 bits, as the other machine answers."""
         for name, name_beside in itertools.combinations(KNOWN, 2):
             with self.subTest(one=name, other=name_beside):
-                status, text, beside = self.pairs(name, name_beside)
+                status, text, beside = self.compared(surface_of(name), surface_of(name_beside))
                 expected = [row for row in zip(NUMBERS, KNOWN[name][1], KNOWN[name_beside][1])
                             if answers_by_hand(name, row[0]) != answers_by_hand(name_beside, row[0])]
                 self.assertEqual(text, expected)
@@ -597,16 +599,11 @@ class Beside(Case):
             self.assertRegex(pair.example, r"\Asuch as socket\(.*\): .* beside ")
 
     def beside(self, filters, others, table=OWN):
-        """The status, and the numbers of the syscalls that differ with what is said of each side."""
-        beside = surface_output.compared_surfaces(of(filters, table=table), of(others, table=table))
-        return beside.status, [(pair.number, *(row.said for row in pair.rows)) for pair in beside.pairs], beside
+        return self.compared(of(filters, table=table), of(others, table=table))
 
     def test_the_same(self):
-        for name in ("by an argument", "a stack"):
-            self.assertEqual(self.pairs(name, name)[:2], (0, []))
         depends = gate(jeq(SOCKET, 0, 6) + by_argument(40, EPERM, ALLOW) + ret(EPERM))
-        for filters, others in ((KNOWN["by an argument"][0], [depends]), ([SQUARE], [SQUARE]),
-                                ([BY_SQUARE], [BY_SQUARE])):
+        for filters, others in ((KNOWN["by an argument"][0], [depends]), ([BY_SQUARE], [BY_SQUARE])):
             self.assertEqual(self.beside(filters, others)[:2], (0, []))
         self.assertEqual(self.beside([UNKNOWN], [UNKNOWN], FEW)[:2], (0, []))
         # one more filter, which allows all, changes no answer, but the filters aren't the same
@@ -653,31 +650,6 @@ class Process(Confined):
 
     def surface(self, *words):
         return self.told("surface", "--table", self.file("own.table", OWN), *words)
-
-    @here
-    def test_one_stack(self):
-        child = self.child([OLDEST, of_number(0x0FFFFFFE, EPERM, ALLOW)])
-        status, lines = self.surface("--pid", str(child.pid))
-        self.assertEqual((status, lines[0]), (0, "allowed 5, depends 0, denied 0"))
-        self.assertEqual(lines[2], f"numbers without a name: {OTHERS - 1} of {OTHERS} {SOME} 2: ALLOW")
-        self.assertRegex(lines[-1], rf"\A# process {child.pid} \(.*\) has 2 filters, of 1, 9 instructions\Z")
-        report = json.loads(self.surface("--json", "--pid", str(child.pid))[1][0])
-        stack = report["stacks"][0]
-        self.assertEqual((report["status"], stack["counts"][M], stack["filters"]), (0, 5, [1, 9]))
-        self.assertEqual(stack["processes"][0]["threads"], child.threads)
-        self.runs_on(child)
-
-    @here
-    def test_threads_with_other_filters_and_without(self):
-        child = self.child([OLDEST], [OLDEST, NEWEST], [])
-        lines = self.of_status(1, self.surface("--pid", str(child.pid)))
-        self.assertEqual(lines.count(""), 2)
-        self.assertEqual(lines[0], "unconfined")
-        self.assertRegex(lines[1], r"\A# thread [0-9]+ of process [0-9]+ \(.*\) has no filter: it isn't confined, and "
-                                   r"every syscall is allowed\Z")
-        report = json.loads(self.surface("--json", "--pid", str(child.pid))[1][0])
-        self.assertEqual([stack["confined"] for stack in report["stacks"]], ["not", "by filters", "by filters"])
-        self.assertEqual([stack["status"] for stack in report["stacks"]], [1, 0, 0])
 
     @here
     def test_beside(self):

@@ -50,9 +50,9 @@ MASKS = (0, 1, 0x80000000, 0xFFFFFFFF, 1 << 32, 0xFF, 0xF0F0F0F0F0F0F0F0, (1 << 
 
 
 def word_of(action, number=None):
-    """The 32 bits of an answer."""
+    """The 32 bits of an answer, whose number only sandboxes read beside TRAP."""
     name = action.removeprefix("SCMP_ACT_")
-    return ACTIONS[name] | ((1 if number is None else number) if name in ("ERRNO", "TRACE") else 0)
+    return ACTIONS[name] | (number if number is not None else int(name in ("ERRNO", "TRACE")))
 
 
 def disposition(answer):
