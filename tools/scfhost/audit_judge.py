@@ -121,7 +121,7 @@ class StackJudge:
             return replace(judgement, shown=None, lines=())
         names = comparison.left_out[-1].architectures
         is_i386 = list(comparison.tables.of) == [architectures.I386]
-        return replace(judgement, not_compared=(*names, *not_compared_of(asked.profile)),
+        return replace(judgement, not_compared=(*names, *not_compared_of(asked.profile.data)),
                        architecture="i386" if is_i386 else None)
 
     def _of_verdict(self, comparison: Pair, verdict: Verdict) -> StackJudgement:

@@ -57,15 +57,15 @@ class Expectation:
     @property
     def key(self) -> str:
         """What tells it from others with another meaning."""
-        requests = [(request.profile, reading_of(request.profile), not_compared_of(request.profile), request.elsewhere,
-                     request.applied and request.applied.stub) for request in (self.asked.parts if self.asked else ())]
+        requests = [(data, reading_of(data), not_compared_of(data), request.elsewhere, request.profile.stub)
+                    for request in (self.asked.parts if self.asked else ()) for data in [request.profile.data]]
         return output.sha256(repr((self.settings, self.runtime, self.why, requests, self.doubt, self.beside)).encode(
             "utf-8", "surrogatepass"))
 
     @property
     def digest(self) -> str | None:
         """The SHA-256 of the profile as scf is given it."""
-        return output.sha256(self.asked.profile) if self.asked is not None else self.dropped
+        return output.sha256(self.asked.profile.data) if self.asked is not None else self.dropped
 
     @property
     def is_stated(self) -> bool:

@@ -15,6 +15,7 @@ from scftools.ask.questions import IS_ALLOWED
 from scftools.ask.verdicts import SAME
 from scftools.forms.filters import Filter
 from scftools.forms.lists import lxc, sandbox_rules, snapd
+from scftools.forms.profile_inputs import ProfileInput
 from scftools.report import compare_output
 from . import configurations, container_files, owned_files, sandbox_programs, unit_profiles, units, verify
 from .audit_rows import CONTAINER, OTHER_PROGRAM, UNIT, AuditRow, Expectation
@@ -43,15 +44,14 @@ class Options:
 
     def request(self, profile: bytes, relation: str = SAME, **settings: Any) -> verify.Request:
         """The question how filters stand beside a profile."""
-        return verify.Request(profile, self.table, self.scope, relation, **settings)
+        return verify.Request(ProfileInput(profile), self.table, self.scope, relation, **settings)
 
     def check(self) -> None:
-        """Raises a ToolError if scf refuses a profile, the table or the limit. Two entries that conflict, or two
-        conditions on one argument, are left to the runtimes, which accept them."""
+        """Raises a ToolError if scf refuses a profile, the table or the limit, and leaves it to no runtime."""
         for name, profile in filter(None, (self.expected, self.baseline, ("", verify.ALLOWS_ALL))):
             comparison = self.request(profile).comparison([Filter("", IS_ALLOWED.filter)])
-            fault = comparison.run(comparison.scope)[1].fault
-            if fault is not None and fault.kind not in ("Conflict", "RepeatedIndex"):
+            fault = comparison.run()[1].fault
+            if fault is not None and fault.kind not in verify.LEFT_TO_RUNTIMES:
                 when, _, *where = *compare_output.fault_sentences(comparison, fault), "", ""
                 sentence = " ".join(filter(None, (f"{fault.line}:", when, *where)))
                 raise program.ToolError(f"'{name}': {sentence}" if fault.source == "profile" else sentence)
@@ -60,7 +60,7 @@ class Options:
 def of_settings(config: dict[str, Any], runtime: str | None, source: str | None, options: Options) -> Expectation:
     """The expectation of a container's settings, as its runtime applies them."""
     try:
-        return Expectation(verify.request_of(config, runtime, False, options.table, SAME, options.scope), source)
+        return Expectation(verify.request_of(config, runtime, options.table, options.scope), source)
     except configurations.ContainerError as why:
         return Expectation(source=source, why=str(why))
     except Exception as error:  # pylint: disable=broad-exception-caught

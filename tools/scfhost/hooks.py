@@ -255,8 +255,8 @@ def finding_of(inspection: Inspection, request: verify.Request, process: Contain
     if others is not None and status == program.SUCCESS:
         status, verdict = program.UNKNOWN, None
     remarks = [*request.remarks, *process.members.remarks, *([others] if others else [])]
-    if status in (program.NEGATIVE, program.TROUBLE) and blocks[0].report is not None:
-        runtime = request.applied.runtime.name if request.applied is not None else None
+    if status in (program.NEGATIVE, program.TROUBLE) and blocks[0].judged is not None:
+        runtime = getattr(request.profile.runtime, "name", None)
         remarks += filter(None, [configurations.other_runtime([process.container.name], runtime)])
 
     def lines() -> list[str]:

@@ -89,8 +89,9 @@ def judge(options, process):
                                    "the configuration has no seccomp profile: " + (
                                        "the container's first process has a filter that isn't its runtime's"
                                        if is_confined else "the container isn't confined"))
-    asked = verify.request_of(config, options.runtime, options.keep_first, tables.read_table(options.table),
-                              RELATION_OF_POLICY[options.policy], verdicts.NATIVE_SCOPE if options.native else None)
+    asked = verify.request_of(config, options.runtime, tables.read_table(options.table),
+                              verdicts.NATIVE_SCOPE if options.native else None, RELATION_OF_POLICY[options.policy],
+                              keeps_first=options.keep_first)
     return hooks.finding_of(process.confined(options.wait, options.force), asked, process)
 
 

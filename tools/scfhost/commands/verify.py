@@ -129,11 +129,9 @@ def configured_request(container, settings):
     if container.why is not None:
         raise program.ToolError(f"the configuration of container {container.identifier}: {container.why}; give a "
                                 "PROFILE")
-    table, scope, relation = settings
     if container.seccomp is None:
         return verify.nothing_request(*settings, configured=False)
-    config = json.loads(container.seccomp)
-    return replace(verify.request_of(config, container.runtime, False, table, relation, scope), configured=True)
+    return verify.request_of(json.loads(container.seccomp), container.runtime, *settings, configured=True)
 
 
 def is_configured(data, name, kernel, pid):
@@ -185,7 +183,7 @@ def request_of(options, kernel, named):
     """How each stack is compared, and with what."""
     settings = tables.read_table(options.table), options.scope, options.relation
     if options.beside is not None:
-        return verify.Request(b"", *settings, saved=verify.read_saved(options.beside))
+        return verify.Request(profile_inputs.ProfileInput(b""), *settings, saved=verify.read_saved(options.beside))
     if options.profile is None:
         return configured_request(named, settings)
     data = read_profile(options.profile, options.runtime is not None)
@@ -196,7 +194,7 @@ def request_of(options, kernel, named):
     for name in options.also:
         unit += profiles_in(read_profile(name, options.runtime is not None), name, options, kernel)
     request, *others = (
-        verify.Request(given.data, *settings, None if options.runtime is None else given, elsewhere)
+        verify.Request(given, *settings, elsewhere)
         for given, elsewhere in zip(unit, profiles.elsewhere_of([given.data for given in unit])))
     is_known = options.runtime is not None or configured and request.is_accepted
     return replace(request, others=tuple(others), configured=configured if is_known else None)
@@ -204,7 +202,7 @@ def request_of(options, kernel, named):
 
 def other_runtime(options, kernel, request, worst):
     """The line, where filters aren't as configured, that another runtime than was said reads the configuration."""
-    is_other = request.configured and worst.report is not None and \
+    is_other = request.configured and worst.judged is not None and \
         worst.status in (program.NEGATIVE, program.TROUBLE)
     if is_other and options.profile is not None:
         identifiers = [*configurations.identifiers_of(kernel, options.pid),

@@ -13,6 +13,7 @@ from scftools.model import tables
 from scftools.ask import client
 from scftools.ask.client import Run
 from scftools.forms.filters import Filter
+from scftools.forms.profile_inputs import ProfileInput
 from scftools.forms.stacks import Stack
 from scftools.report import compare
 from scfhost import audit_judge, audit_rows
@@ -105,6 +106,7 @@ class Modules(Case):
         run, judge = client.run_scf, audit_judge.StackJudge(Options(table))
         with mock.patch.object(client, "run_scf", lambda words, *more_words, **more: Run(1, text)
                                if words[0] == "compare" else run(words, *more_words, **more)):
-            block = judge.judgement(stack, audit_rows.Expectation(Request(profile_of("read", "write"), table)))
+            asked = Request(ProfileInput(profile_of("read", "write")), table)
+            block = judge.judgement(stack, audit_rows.Expectation(asked))
         self.assertEqual((block.verdict, block.why[:42]),
                          (audit_rows.NOT_KNOWN, "internal error: the filters answer ERRNO 1"))

@@ -818,8 +818,9 @@ class Firejail(Case):
     def test_what_is_expected(self):
         expectations = Expectations(Options(tables.read_table(None)))
         expected = expectations.of_firejail(self.started("--profile=p", "--", "--seccomp.drop=rmdir"))
-        self.assertEqual((expected.source, not_compared_of(expected.asked.profile)), (self.profile, ("SCMP_ARCH_X86",)))
-        self.assertEqual(json.loads(expected.asked.profile)["syscalls"], [
+        data = expected.asked.profile.data
+        self.assertEqual((expected.source, not_compared_of(data)), (self.profile, ("SCMP_ARCH_X86",)))
+        self.assertEqual(json.loads(data)["syscalls"], [
             {"names": ["mkdir"], "action": "SCMP_ACT_ERRNO", "errnoRet": 1, "comment": "line 1"}])
         expected = expectations.of_firejail(self.started("--profile=p", "--seccomp.drop=rmdir"))
         self.assertEqual((expected.asked, expected.why), (None, "firejail was given --seccomp.drop=rmdir"))
@@ -863,7 +864,7 @@ class Snaps(Case):
         expected = self.expectations.of_snap("snap.web.run")
         self.assertEqual((expected.source, expected.beside),
                          (os.path.join(self.folder, "snap.web.run.src"), self.OF_ALL))
-        self.assertEqual(json.loads(expected.asked.profile)["syscalls"], [
+        self.assertEqual(json.loads(expected.asked.profile.data)["syscalls"], [
             {"names": ["read", "write"], "action": "SCMP_ACT_ALLOW", "comment": "lines 3-4"}])
         self.assertIsNone(self.expectations.of_snap("snap.classic.run"))
         self.file("snap.odd.run.src", self.RULES + "~read\n")
@@ -875,7 +876,7 @@ class Snaps(Case):
     def test_verdicts(self):
         """The filter of all snaps makes nothing stricter than configured; a filter that allows more is weaker."""
         expected, judge = self.expectations.of_snap("snap.web.run"), audit_judge.StackJudge(self.expectations.options)
-        compiled = self.compile(self.file("p.json", expected.asked.profile))[1]
+        compiled = self.compile(self.file("p.json", expected.asked.profile.data))[1]
         for filters, verdict in (((compiled, self.OF_ALL), "as configured"), ((compiled,), "as configured"),
                                  ((self.OF_ALL,), "weaker"), ((gate(ret(ALLOW)), self.OF_ALL), "weaker"),
                                  ((compiled, gate(ret(EPERM))), "stricter")):

@@ -278,7 +278,7 @@ class OfProcesses(Hook):
         child = self.child([refusing(MOUNT)])
         process = hooks.ContainerProcess(hooks.container_of(self.state(child.pid, self.bundle(refuses("mount")))))
         table = tables.read_table(None)
-        asked = verify.request_of(hooks.configuration_of(process.container), None, False, table, "same")
+        asked = verify.request_of(hooks.configuration_of(process.container), None, table)
         for others, expected in (([], (0, "same")), ([os.getpid()], (4, None))):
             process.members = processes.Container(None, list, lambda item=others: item)
             finding = hooks.finding_of(process.confined(0, False), asked, process)

@@ -14,6 +14,7 @@ from support.common import ALLOW, PATIENCE, TOP, Case, comes, ret, sample
 from support.confined import NEWEST, OLDEST, OTHER, Confined, FakeKernel, here, processes, ptrace, status_of
 from scftools.base import child as children
 from scftools.ask import verdicts
+from scftools.forms.profile_inputs import ProfileInput
 from scftools.forms.stacks import Inspection, Stack, threads_text
 from scfhost import hold, verify
 
@@ -31,11 +32,11 @@ class Verdicts(Case):
         """A thread without a filter stands before filters that differ, in text and in JSON."""
         actual = Inspection([Stack((OLDEST,), False, {7: [7]}), Stack((), True, {8: [8]}), Stack((), False, {9: [9]})],
                             {7: b"a", 8: b"b", 9: b"c"}, {})
-        request = verify.Request(b"{}", None)
-        report = verdicts.Report(("differs",), verdicts.Verdict("differs"))
-        with mock.patch.object(verify.Request, "judge", lambda _, item: verify.Block(item, 1, None, report)), \
+        request = verify.Request(ProfileInput(b"{}"), None)
+        judged = verify.Judgement(None, 1, verdicts.Report(("differs",), verdicts.Verdict("differs")), "native")
+        with mock.patch.object(verify.Request, "judge", lambda _, item: verify.Block(item, 1, "differs", judged)), \
                 mock.patch.object(verify.Request, "notes", lambda *_: iter(())), \
-                mock.patch.object(verify.compare_output, "comparison_json", lambda *_: {"verdict": "differs"}):
+                mock.patch.object(verify, "comparison_json", lambda *_: {"verdict": "differs"}):
             made = verify.blocks(actual, request)
             self.assertEqual([item.verdict for item in made], ["unconfined", "differs", "strict"])
             self.assertEqual(next(verify.verification_lines(made, actual, request)),

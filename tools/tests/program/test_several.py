@@ -17,7 +17,7 @@ from repository.test_library import OUT, RELATIONS, python_module
 from scftools.model import bundles, tables
 from scftools.model.architectures import JUDGED
 from scftools.model.calls import Call
-from scftools.ask import client, verdicts
+from scftools.ask import client
 from scftools.forms import runtimes
 from scftools.forms.filters import Filter
 from scfhost import verify
@@ -325,7 +325,7 @@ class Stub(unittest.TestCase):
         self.assertEqual(applied.stub, {name: self.BOUNDS[name] for name in JUDGED if name in names})
         data = client.compile_profile(applied.data, tables.tables_of_profile(applied.data, tables.read_table(None)))
         rows = [(JUDGED[name].number, name == "SCMP_ARCH_X32", first) for name, first in bounds.items()]
-        request = verify.Request(applied.data, tables.read_table(None), None, verdicts.SAME, applied)
+        request = verify.Request(applied, tables.read_table(None))
 
         class Stack:
             named = [Filter("it", with_stub(data, rows))]
@@ -337,19 +337,20 @@ class Stub(unittest.TestCase):
             bounds = {name: self.BOUNDS[name] for name in JUDGED if name in names}
             block, request = self.judged(bounds, names)
             self.assertEqual((block.verdict, block.stub), ("same", bounds), names)
+        block, request = self.judged({name: self.BOUNDS[name] for name in NAMED[:1]}, NAMED[:1])
         self.assertIn("runc answers the numbers from 136 on, above all that the profile names, with ENOSYS",
-                      list(request.notes(self.judged({name: self.BOUNDS[name] for name in NAMED[:1]}, NAMED[:1])[0])))
+                      list(request.notes(block, block.judged.first)))
 
     def test_at_other_numbers(self):
         for name in NAMED:
             for step in (-1, 1):
                 block, _ = self.judged({**self.BOUNDS, name: self.BOUNDS[name] + step})
                 self.assertEqual(block.verdict, "differs", (name, step))
-                call = block.report.verdict.call
+                call = block.judged.first.verdict.call
                 self.assertEqual((call.abi, call.number), (name, self.BOUNDS[name] + min(step, 0)))
             lacking = {architecture: first for architecture, first in self.BOUNDS.items() if architecture != name}
             block, _ = self.judged(lacking)
-            self.assertEqual((block.verdict, block.report.verdict.call.abi), ("differs", name))
+            self.assertEqual((block.verdict, block.judged.first.verdict.call.abi), ("differs", name))
 
 
 @NEEDED
