@@ -1,20 +1,33 @@
-"""An audit as lines, as JSON, and as metrics for Prometheus."""
+"""An audit as lines, as JSON, as metrics for Prometheus, and as a page of HTML: what there is, a verdict for each
+container, unit and program, what each distinct stack allows, and for each bad verdict a call that shows it."""
 from __future__ import annotations
 
 import os
 import re
+import shlex
 from collections import Counter
 from collections.abc import Iterable, Iterator
 
 from scftools.base import output
 from scftools.base.values import Any, dataclass
 from scftools.model.tables import Table
-from .audit_rows import (AUDIT_VERDICTS, CONTAINER, OTHER_PROGRAM, ROW_KINDS, STRICTER, UNIT, Audit, AuditRow, RowPart,
-                         StackJudgement, is_only_counted)
+from scftools.ask import client
+from scftools.ask.verdicts import OTHERWISE
+from scftools.report import pages
+from scftools.report.pages import Markup, Named, c_call, joined, listed, preformatted, tag
+from .audit_rows import (
+    AS_CONFIGURED, AUDIT_VERDICTS, CONTAINER, NOT_KNOWN, OTHER_PROGRAM, ROW_KINDS, STRICTER, UNIT, WEAKER, Audit,
+    AuditRow, RowPart, StackJudgement, is_only_counted)
 
 # At most so many processes of a row are named in a line, and so many characters of a name are printed.
 MOST_PROCESSES, MOST_OF_NAME = 3, 200
 PLURALS = {CONTAINER: "containers", UNIT: "units", OTHER_PROGRAM: "other confined programs"}
+PROVED = ("Each comparison of a stack of filters with a profile is proved for all x86-64 syscalls and arguments by "
+          "scf; what the files of runtimes and systemd say, and which process belongs to what, isn't.")
+VERDICT_CLASSES = {AS_CONFIGURED: "good", STRICTER: "good", OTHERWISE: "warn", NOT_KNOWN: "warn"}
+COLUMNS = ("verdict", "what", "engine, image", "profile", "filters", "capabilities", "NoNewPrivs", "processes")
+# The digits of a hash that are shown, and the most stacks of a row that are shown unfolded.
+DIGITS, FEW = 12, 3
 
 
 def short(identifier: str) -> str:
@@ -171,41 +184,35 @@ def _was(change: dict[str, object]) -> str:
     return f" (was {change['was']})" if change["was"] is not None else ""
 
 
-def _judgement_json(judgement: StackJudgement, table: Table) -> dict[str, object]:
-    value: dict[str, object] = {"verdict": judgement.verdict}
-    if judgement.why is not None:
-        value["why"] = output.escaped(judgement.why)
-    shown = judgement.shown
-    if shown is not None and shown.call is not None and shown.filters is not None and shown.profile is not None:
-        value.update(shown.as_json(table))
-    if judgement.is_of_baseline:
-        value["baseline"] = True
-    if judgement.not_compared:
-        value["not_compared"] = list(judgement.not_compared)
-    return value
+def _part_json(part: RowPart, row: AuditRow, numbers: dict[str | None, int], table: Table) -> dict[str, object]:
+    names, judgement, shown = row.names, part.judgement, part.judgement.shown
+    is_shown = shown is not None and None not in (shown.call, shown.filters, shown.profile)
+    members = {"verdict": judgement.verdict, "why": _escaped(judgement.why),
+               **(shown.as_json(table) if is_shown else {}), "baseline": judgement.is_of_baseline or None,
+               "not_compared": list(judgement.not_compared) or None}
+    return {**{name: member for name, member in members.items() if member is not None},
+            "stack": numbers.get(part.digest), "is_unconfined": judgement.is_unconfined,
+            "processes": [{"process": process, "name": output.escaped(names.get(process, b"")),
+                           "threads": len(threads)} for process, threads in part.threads.items()]}
 
 
-def row_json(row: AuditRow, numbers: dict[str, int], table: Table) -> dict[str, object]:
+def _escaped(text: str | None) -> str | None:
+    return None if text is None else output.escaped(text)
+
+
+def row_json(row: AuditRow, numbers: dict[str | None, int], table: Table) -> dict[str, object]:
     """A row; `numbers` are the indexes of stacks by their digests."""
-    container, names = row.container, row.names
-    value: dict[str, object] = {"kind": row.kind, "name": output.escaped(row.name), "id": row.id, "user": row.user,
-                                "verdict": row.verdict, "is_unconfined": row.is_unconfined}
-    if container is not None:
-        value.update((name, None if value is None else output.escaped(value)) for name, value in (
-            ("engine", container.engine), ("runtime", container.runtime), ("image", container.image),
-            ("pod", container.pod)))
-    value["profile"] = {"source": None if row.expected.source is None else output.escaped(row.expected.source),
-                        "sha256": row.expected.digest,
-                        **({"why": output.escaped(row.expected.why)} if row.expected.why is not None else {}),
-                        **({"changed": True} if container is not None and container.has_changed else {})}
-    parts = [{**_judgement_json(part.judgement, table), "stack": numbers.get(part.digest or ""),
-              "is_unconfined": part.judgement.is_unconfined,
-              "processes": [{"process": process, "name": output.escaped(names.get(process, b"")),
-                             "threads": len(threads)} for process, threads in part.threads.items()]}
-             for part in row.parts]
-    return {**value, "capabilities": row.capabilities,
-            "no_new_privileges": all(process.has_no_new_privileges for process in row.processes),
-            "users": sorted({process.user for process in row.processes}), "parts": parts}
+    container, expected = row.container, row.expected
+    described = () if container is None else ("engine", "runtime", "image", "pod")
+    return {"kind": row.kind, "name": output.escaped(row.name), "id": row.id, "user": row.user,
+            "verdict": row.verdict, "is_unconfined": row.worst.is_unconfined,
+            **{name: _escaped(getattr(container, name)) for name in described},
+            "profile": {"source": _escaped(expected.source), "sha256": expected.digest,
+                        **({"why": _escaped(expected.why)} if expected.why is not None else {}),
+                        **({"changed": True} if container is not None and container.has_changed else {})},
+            "capabilities": row.capabilities, "no_new_privileges": row.has_no_new_privileges,
+            "users": sorted({process.user for process in row.processes}),
+            "parts": [_part_json(part, row, numbers, table) for part in row.parts]}
 
 
 def audit_json(audit: Audit, table: Table, earlier: Earlier | None = None) -> dict[str, object]:
@@ -215,7 +222,7 @@ def audit_json(audit: Audit, table: Table, earlier: Earlier | None = None) -> di
 
 def json_lines(audit: Audit, table: Table, earlier: Earlier | None = None) -> Iterator[dict[str, object]]:
     """An object for each row, and the last one for the whole."""
-    numbers, system = {digest: at for at, digest in enumerate(audit.stacks)}, os.uname()
+    numbers, system = audit.stack_numbers, os.uname()
     yield from (row_json(row, numbers, table) for row in audit.rows)
     since = {} if earlier is None else {"since": {
         "time": output.escaped(earlier.time), "changes": [*changes(earlier, audit)]}}
@@ -268,3 +275,123 @@ def _metrics(audit: Audit) -> Iterator[output.Metric]:
 def metrics(audit: Audit) -> str:
     """The audit in Prometheus's text format."""
     return output.prometheus(_metrics(audit))
+
+
+def _coloured(verdict: str) -> Markup:
+    return tag("span", verdict, class_=VERDICT_CLASSES.get(verdict, "bad"))
+
+
+def repeat(row: AuditRow, part: RowPart) -> list[str]:
+    """The commands that repeat a comparison of a row's part."""
+    process = next(iter(part.threads), None)
+    if process is None or row.expected.source is None:
+        return []
+    relation = "--no-more " if part.judgement.verdict == WEAKER else ""
+    if row.kind == UNIT:
+        architecture = part.judgement.architecture
+        arch = f"--arch {architecture} " if architecture is not None else ""
+        return [f"scf unit-profile {arch}{shlex.quote(row.key)} >unit.json",
+                f"scf verify-process {relation}{process} unit.json"]
+    runtime = f"--runtime {row.container.runtime} " if row.container is not None and row.container.runtime else ""
+    return [f"scf verify-process {relation}{runtime}{process} {shlex.quote(row.expected.source)}"]
+
+
+def _stacks_of(row: AuditRow, numbers: dict[str | None, int]) -> Markup:
+    """The distinct stacks of a row's threads, each with its verdict if they have several."""
+    has_several = len({part.judgement.verdict for part in row.parts}) > 1
+    items = []
+    for part in row.parts:
+        at = numbers.get(part.digest)
+        shown = part.judgement.why or part.description if at is None else \
+            joined([tag("a", f"stack {at}", href=f"#stack-{at}"), f": {part.description}"])
+        items.append(joined([f"{part.judgement.verdict}: " if has_several else "", shown]))
+    return listed(items) if len(items) <= FEW else tag("details", tag("summary", f"{len(items)} stacks"), listed(items))
+
+
+def _row(row: AuditRow, numbers: dict[str | None, int]) -> list[object]:
+    capabilities = row.capabilities
+    expected, digest = row.expected, row.expected.digest
+    source: list[object] = [expected.source or ("nothing is configured" if expected.why is None else
+                                                "what is configured isn't known:")]
+    source += [" ", tag("code", digest[:DIGITS], title=digest)] if digest else []
+    source += [" ", expected.why] if expected.why is not None else []
+    processes = [f"{number} {output.escaped(name)}" for number, name in row.names.items()]
+    count = f"{len(processes)} process{'es' * (len(processes) != 1)}"
+    return [_coloured(row.verdict), joined([row.kind, " ", tag("strong", row.name, class_="long")]),
+            ", ".join(about(row)), tag("span", *source, class_="long"), _stacks_of(row, numbers),
+            tag("details", tag("summary", str(len(capabilities))), " ".join(capabilities)) if capabilities else "none",
+            "yes" if row.has_no_new_privileges else "no",
+            tag("details", tag("summary", count), listed(processes))]
+
+
+def _shown(judgement: StackJudgement, table_of: Table) -> Iterator[Markup]:
+    """The evidence of a verdict: the call in C, both answers, the entry and the filter's lines."""
+    shown = judgement.shown
+    if judgement.why is not None:
+        yield tag("p", judgement.why)
+    if shown is None or shown.call is None:
+        return
+    yield preformatted([c_call(shown.call, table_of)])
+    than = "the baseline" if judgement.is_of_baseline else "the profile"
+    sides = [(answer.describe() if answer is not None else "unknown") for answer in (shown.filters, shown.profile)]
+    yield listed((f"the filters answer {sides[0]}", f"{than} answers {sides[1]}"))
+    if judgement.lines:
+        yield preformatted(judgement.lines)
+
+
+def _findings(audit: Audit, table_of: Table) -> Iterator[Markup]:
+    """The evidence of each verdict that isn't `as configured`; verdicts with the same reason stand together."""
+    yield tag("h2", "What shows the verdicts")
+    bad = [(row, part) for row in audit.rows for part in row.parts
+           if part.judgement.verdict not in (AS_CONFIGURED, STRICTER) and
+           (part.judgement.why is not None or part.judgement.shown is not None)]
+    if not bad:
+        yield tag("p", "Nothing is weaker than configured, otherwise, or not known.")
+    alike: dict[object, list[tuple[AuditRow, RowPart]]] = {}
+    for row, part in bad:
+        reason = row.user, part.judgement.verdict, part.judgement.why, part.judgement.shown
+        alike.setdefault(reason, []).append((row, part))
+    for pairs in alike.values():
+        judgement, names = pairs[0][1].judgement, dict.fromkeys(row_text(row) for row, _ in pairs)
+        yield tag("h3", _coloured(judgement.verdict), f" {', '.join(names)}")
+        yield from _shown(judgement, table_of)
+        commands = [line for row, part in pairs for line in repeat(row, part)]
+        if commands:
+            yield tag("p", "To repeat it:")
+            yield preformatted(commands)
+
+
+def _overview(audit: Audit, earlier: Earlier | None) -> Iterator[Markup]:
+    """What there is, what changed since an earlier audit, and the rows."""
+    system, version = os.uname(), client.run_scf(["--version"]).text.strip()
+    yield tag("h1", f"seccomp audit of {output.escaped(system.nodename)}")
+    yield tag("p", f"{output.time_text(audit.time)} · Linux {system.release} · {version} · {audit.seconds:.2f} "
+                   "seconds")
+    yield listed(summary(audit))
+    yield tag("p", PROVED, class_="faint")
+    if earlier is not None:
+        yield tag("h2", f"Since {output.escaped(earlier.time)}")
+        changed = [joined([_coloured(str(change["verdict"] or "gone")), f" {change['row']}", _was(change) or " (new)"])
+                   for change in changes(earlier, audit)]
+        yield listed(changed) if changed else tag("p", "No row is new, gone or has another verdict.")
+    yield tag("h2", "Containers, units and programs")
+    numbers = audit.stack_numbers
+    yield pages.table(COLUMNS, [_row(row, numbers) for row in audit.rows], "rows") if audit.rows else \
+        tag("p", "There is no container, no unit, and no other program with a filter.")
+
+
+def _stacks(audit: Audit, table_of: Table) -> Iterator[Markup]:
+    stacks = [Named(f"stack {at}", audit.surfaces.get(digest), stack.description, digest)
+              for at, (digest, stack) in enumerate(audit.stacks.items())]
+    if stacks:
+        yield from pages.matrix(stacks)
+        yield from pages.dangerous(stacks, table_of)
+        yield tag("h2", "Distinct stacks")
+    for stack in stacks:
+        yield from pages.stack(stack)
+
+
+def page(audit: Audit, table_of: Table, earlier: Earlier | None = None) -> str:
+    """The page, with the changes since an earlier audit."""
+    return pages.document(f"seccomp audit of {os.uname().nodename}", *_overview(audit, earlier),
+                          *_findings(audit, table_of), *_stacks(audit, table_of))

@@ -144,11 +144,6 @@ class AuditRow:
         return self.worst.verdict
 
     @property
-    def is_unconfined(self) -> bool:
-        """Whether some thread has neither a filter nor the strict mode."""
-        return any(part.judgement.is_unconfined for part in self.parts)
-
-    @property
     def is_only_counted(self) -> bool:
         return is_only_counted(self.kind, self.expected.is_stated, self.verdict)
 
@@ -156,6 +151,10 @@ class AuditRow:
     def names(self) -> dict[int, bytes]:
         """The names of its processes by their numbers."""
         return {process.number: process.name for process in self.processes}
+
+    @property
+    def has_no_new_privileges(self) -> bool:
+        return all(process.has_no_new_privileges for process in self.processes)
 
     @property
     def capabilities(self) -> list[str]:
@@ -204,7 +203,7 @@ class Audit:
         """What is bad of root's is; of a user's it is no more than unknown, since the user may have described it so."""
         bad = {WEAKER, UNCONFINED_THOUGH, *([] if self.allows_unconfined else [BY_CONFIGURATION])}
         is_bad = {row.user is None: True for row in self.rows
-                  if row.verdict in bad or row.is_unconfined and row.verdict == NOT_KNOWN}
+                  if row.verdict in bad or row.worst.is_unconfined and row.verdict == NOT_KNOWN}
         if True in is_bad:
             return program.NEGATIVE
         is_unknown = is_bad or self.left_out or any(row.verdict == NOT_KNOWN for row in self.rows)
@@ -245,3 +244,7 @@ class Audit:
                 if part.digest is not None:
                     stacks.setdefault(part.digest, part)
         return stacks
+
+    @property
+    def stack_numbers(self) -> dict[str | None, int]:
+        return {digest: at for at, digest in enumerate(self.stacks)}

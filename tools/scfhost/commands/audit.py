@@ -115,9 +115,7 @@ def main():
         if given.prometheus is not None:
             output.replace_file(given.prometheus, audit_output.metrics(report))
         if given.html is not None:
-            from .. import audit_page  # pylint: disable=import-outside-toplevel
-
-            output.replace_file(given.html, audit_page.page(report, table, earlier))
+            output.replace_file(given.html, audit_output.page(report, table, earlier))
         if before is None or given.json:
             show(report, given, table, earlier)
         else:

@@ -16,7 +16,7 @@ import importlib, json, os, resource, sys
 sys.path.insert(0, sys.argv[1])
 from scftools.base import program
 from scftools.model import tables
-from scfhost import audit, audit_judge, audit_output, audit_page, expectations, processes
+from scfhost import audit, audit_judge, audit_output, expectations, processes
 program.is_tool = True
 for place, value in json.loads(sys.argv[2]).items():
     module, _, name = place.rpartition(".")
@@ -29,8 +29,8 @@ for _ in range(2):
     report = audit.audit_machine(options, judges)
     print(json.dumps({
         "object": audit_output.audit_json(report, options.table), "metrics": audit_output.metrics(report),
-        "lines": list(audit_output.audit_lines(report, options.table)), "page": audit_page.page(report, options.table),
-        "seconds": sum(os.times()[:4]) - began,
+        "lines": list(audit_output.audit_lines(report, options.table)),
+        "page": audit_output.page(report, options.table), "seconds": sum(os.times()[:4]) - began,
         "bytes": 1024 * sum(resource.getrusage(who).ru_maxrss for who in (
             resource.RUSAGE_SELF, resource.RUSAGE_CHILDREN, resource.RUSAGE_CHILDREN))}))
 """

@@ -14,7 +14,7 @@ from scftools.ask import verdicts
 from scftools.forms import stacks
 from scftools.forms.profile_inputs import ProfileInput
 from scftools.report import compare, compare_output, pages, surfaces
-from scfhost import audit_output, audit_page, audit_rows, container_files, machine
+from scfhost import audit_output, audit_rows, container_files, machine
 
 # The elements that a page has, and their attributes.
 TAGS = {"html": {"lang"}, "head": set(), "meta": {"charset", "http-equiv", "content", "name"}, "title": set(),
@@ -90,7 +90,7 @@ class Pages(Case):
         report = audit_rows.Audit(rows, snapshot, 0.0, surfaces={"ab" * 32: surface})
         was = audit_output.EarlierRow(HOSTILE, "weaker", False)
         earlier = audit_output.Earlier(HOSTILE, {("unit", None, HOSTILE): was})
-        return audit_page.page(report, table, earlier)
+        return audit_output.page(report, table, earlier)
 
     def test_an_audit(self):
         text = Page(self.made(), self).check()
@@ -109,7 +109,7 @@ class Pages(Case):
         for row in rows:
             judgement = audit_rows.StackJudgement(audit_rows.NOT_KNOWN, "slow")
             row.parts = [audit_rows.RowPart({8: [8]}, judgement)]
-        text = Page(audit_page.page(audit_rows.Audit(rows, machine.Snapshot(), 0.0), tables.read_table(None)),
+        text = Page(audit_output.page(audit_rows.Audit(rows, machine.Snapshot(), 0.0), tables.read_table(None)),
                     self).check()
         self.assertIn("not known unit a, unit b", text)
         self.assertEqual(text[text.index("What shows the verdicts"):].count("slow"), 1)
@@ -122,13 +122,13 @@ class Pages(Case):
             row = audit_rows.AuditRow(audit_rows.UNIT, "a.service", [process(8)], expected)
             row.parts = [audit_rows.RowPart({8: [8]}, audit_rows.StackJudgement(audit_rows.NOT_KNOWN))]
             made = audit_rows.Audit([row], machine.Snapshot(), 0.0)
-            text = Page(audit_page.page(made, tables.read_table(None)), self).check()
+            text = Page(audit_output.page(made, tables.read_table(None)), self).check()
             self.assertIn(says, text)
             self.assertEqual("nothing is configured" in text, says == "nothing is configured")
 
     def test_nothing_to_show(self):
         table = tables.read_table(None)
-        text = Page(audit_page.page(audit_rows.Audit([], machine.Snapshot(), 0.0), table), self).check()
+        text = Page(audit_output.page(audit_rows.Audit([], machine.Snapshot(), 0.0), table), self).check()
         self.assertIn("There is no container, no unit, and no other program with a filter.", text)
         self.assertNotIn("Dangerous syscalls", text)
 

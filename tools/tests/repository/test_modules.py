@@ -19,10 +19,10 @@ TOOLS = os.path.join(TOP, "tools")
 # (what takes long is never imported at the start of a tool: Python's dataclasses import inspect)
 DEAR = {"dataclasses", "inspect", "typing"}
 LATE = {"ast", "ctypes", "difflib", "glob", "hashlib", "importlib", "json", "pickle", "resource", "shlex", "signal",
-        "subprocess", "syslog", "tempfile", "threading", "urllib.parse", "scfhost.audit_page", "scfhost.processes",
-        "scfhost.ptrace", "scfhost.unit_profiles", "scftools.ask.questions", "scftools.ask.regions",
-        "scftools.forms.filter_loads", "scftools.forms.lists.sandboxes", "scftools.forms.refusals",
-        "scftools.forms.runtimes", "scftools.logs.cores", "scftools.report.pages", "scftools.report.region_output",
+        "subprocess", "syslog", "tempfile", "threading", "urllib.parse", "scfhost.processes", "scfhost.ptrace",
+        "scfhost.unit_profiles", "scftools.ask.questions", "scftools.ask.regions", "scftools.forms.filter_loads",
+        "scftools.forms.lists.sandboxes", "scftools.forms.refusals", "scftools.forms.runtimes", "scftools.logs.cores",
+        "scftools.report.pages", "scftools.report.region_output",
         "scftools.report.row_conditions", "scftools.report.surface_output"}
 
 # The packages of scftools in their order, and what looks at a process or a unit.
