@@ -108,9 +108,8 @@ class Assessor:
                 plain.update(threads)
                 continue
             why = judging if stack.filters else "it is in seccomp's strict mode, which no profile expresses"
-            digest, judgement = row.judged.get(index) or (None, StackJudgement(NOT_KNOWN, why))
-            lengths = tuple(len(data) // 8 for data in stack.filters)
-            yield RowPart(threads, judgement, lengths, stack.is_strict, digest)
+            judgement = row.judged.get(index) or StackJudgement(NOT_KNOWN, why)
+            yield RowPart(threads, judgement, tuple(len(data) // 8 for data in stack.filters), stack.is_strict)
         if plain:
             verdict = UNCONFINED_THOUGH if row.expected.is_stated else BY_CONFIGURATION
             why = row.expected.why or ("it isn't looked at" if row.expected.is_unresolved else None)
@@ -160,7 +159,7 @@ def audit_machine(options: Options, judges: Judges) -> Audit:
             row.parts.append(RowPart({first: [first]}, StackJudgement(NOT_KNOWN, COMES_AND_GOES)))
             row.parts.sort(key=lambda part: part.judgement.order)
     rows = sorted((row for row in rows if row.parts), key=lambda row: row.order)
-    of_root = {part.digest for row in rows if row.user is None for part in row.parts}
+    of_root = {part.judgement.digest for row in rows if row.user is None for part in row.parts}
     surfaces = {digest: surface for user, found in assessor.surfaces.items() for digest, surface in found.items()
                 if user is None or digest not in of_root}
     return Audit(rows, snapshot, now, time.monotonic() - began, options.allows_unconfined, surfaces)

@@ -30,126 +30,13 @@ WORST_FIRST = (WEAKER, NOT_KNOWN, STRICTER, OTHERWISE, AS_CONFIGURED)
 MOST_KEPT, MOST_LINES = 5000, 100
 # How much of a child's time scf may take with all steps.
 SHARE_OF_SCF = 0.6
-# What a child answers: of a row the profile that is expected, or why that isn't known; of a stack of a row the SHA-256
-# of its bundle and the verdict; and what a stack allows.
+# What a child answers: of a row the profile that is expected, or why that isn't known; of a stack of a row the verdict;
+# and what a stack allows.
 SURFACE = {"whole": [str], "rows": [{"names": [str], "said": str, "details": [str]}]}
 JUDGEMENT = {"verdict": str, "why": (str, None), "shown": [str], "not_compared": [str], "lines": [str],
-             "architecture": (str, None), "is_of_baseline": bool}
-ANSWER = ({"row": int, "digest": (str, None), "why": (str, None)},
-          {"row": int, "stack": int, "digest": str, "judgement": JUDGEMENT},
+             "architecture": (str, None), "is_of_baseline": bool, "digest": str}
+ANSWER = ({"row": int, "digest": (str, None), "why": (str, None)}, {"row": int, "stack": int, "judgement": JUDGEMENT},
           {"stack": int, **SURFACE})
-
-
-class StackJudge:
-    def __init__(self, options: Options) -> None:
-        self.options = options
-        # what settings mean; and the verdicts, by what is expected and stacks
-        self.resolved: dict[str, Expectation] = {}
-        self.judgements: dict[tuple[str, str], StackJudgement] = {}
-
-    def send_all(self, of: Task, send: child.Send, seconds: float) -> None:
-        """Judges, in a child, what waits, and sends that."""
-        client.begin_limits(seconds * SHARE_OF_SCF, False)
-        digests = {}
-        for at, (row, key) in enumerate(zip(of.rows, of.keys)):
-            expected = row.expected
-            if row.waits and expected.settings is not None:
-                if key not in self.resolved:
-                    self.resolved[key] = of_settings(json.loads(expected.settings), expected.runtime, expected.source,
-                                                     self.options)
-                expected = self.resolved[key]
-                send({"row": at, "digest": expected.digest, "why": expected.why})
-            for number, known in row.judged.items():
-                filters = of.stacks[number].filters
-                digests[number] = known[0] if known is not None else output.sha256(stack_bundle(filters))
-                if known is None:
-                    its_key = key, of.stack_keys[number]
-                    if its_key not in self.judgements:
-                        self.judgements[its_key] = self.judgement(of.stacks[number], expected)
-                    judgement = self.judgements[its_key]
-                    shown = [] if judgement.shown is None else verdicts.Report.of(judgement.shown).lines
-                    send({"row": at, "stack": number, "digest": digests[number], "judgement": {
-                        **{name: getattr(judgement, name) for name in JUDGEMENT}, "shown": shown}})
-        for number, digest in digests.items() if self.options.has_surfaces else ():
-            if digest not in of.surfaces_of:
-                surface = ShownSurface.of(surfaces.surface_of_filters(of.stacks[number].filters, self.options.table))
-                of.surfaces_of[digest] = surface
-                send({"stack": number, **surface.as_json()})
-
-    def judgement(self, stack: Stack, expected: Expectation) -> StackJudgement:
-        """The verdict on a stack with filters; whatever is raised meanwhile, it isn't known."""
-        try:
-            if expected.why is not None:
-                judgement = StackJudgement(NOT_KNOWN, f"what is configured isn't known: {expected.why}")
-            else:
-                judgement = self.judge_all(stack, expected)
-            if self.options.baseline is None:
-                return judgement
-            least = self.judge(stack, self.options.request(self.options.baseline[1], NO_MORE), NO_MORE)
-            is_worse = AUDIT_VERDICTS.index(least.verdict) < AUDIT_VERDICTS.index(judgement.verdict)
-            return replace(least, is_of_baseline=True) if is_worse and least.verdict in (WEAKER, NOT_KNOWN) else \
-                judgement
-        except program.ToolError as why:
-            return StackJudgement(NOT_KNOWN, str(why))
-        except Exception as error:  # pylint: disable=broad-exception-caught
-            return StackJudgement(NOT_KNOWN, f"it can't be compared: {type(error).__name__}")
-
-    def judge_all(self, stack: Stack, expected: Expectation) -> StackJudgement:
-        """The verdict beside all that is expected."""
-        filters = tuple(data for data in stack.filters if data != expected.beside)
-        stack = replace(stack, filters=filters) if filters else stack
-        judgements = (self.judge(stack, request) for request in (expected.asked.parts if expected.asked else (None,)))
-        worst = min(judgements, key=lambda judgement: WORST_FIRST.index(judgement.verdict))
-        if expected.doubt is None or worst.verdict in (NOT_KNOWN, AS_CONFIGURED):
-            return worst
-        return replace(worst, verdict=NOT_KNOWN, why=f"it is {worst.verdict}, but {expected.doubt}")
-
-    def judge(self, stack: Stack, asked: verify.Request | None, relation: str = SAME) -> StackJudgement:
-        """The verdict beside a profile, or where nothing is configured."""
-        asked_of = asked or verify.nothing_request(self.options.table)
-        comparison = asked_of.comparison(stack.named, relation)
-        # (one of which nothing is shown needs no second look)
-        verdict = comparison.known_verdict(comparison.scope, relation) if asked is None else None
-        if verdict is None:
-            comparison, _, report = comparison.run_by_stub()
-            verdict = report.verdict
-            if verdict is None:
-                return StackJudgement(NOT_KNOWN, f"scf says: {report.lines[0] if report.lines else 'nothing'}")
-        judgement = self._of_verdict(comparison, verdict)
-        if asked is None:
-            # (the call that shows it would be answered by no profile of a user)
-            return replace(judgement, shown=None, lines=())
-        names = comparison.left_out[-1].architectures
-        is_i386 = list(comparison.tables.of) == [architectures.I386]
-        return replace(judgement, not_compared=(*names, *not_compared_of(asked.profile.data)),
-                       architecture="i386" if is_i386 else None)
-
-    def _of_verdict(self, comparison: Pair, verdict: Verdict) -> StackJudgement:
-        """The verdict on what is judged: if some syscalls differ, whether any is more permissive, or any stricter."""
-        if verdict.holds:
-            return StackJudgement(AS_CONFIGURED)
-        if not verdict.fails:
-            return _undecided(verdict)
-        no_more = verdict if comparison.relation == NO_MORE else comparison.verdict(comparison.scope, NO_MORE)
-        if no_more is None or not no_more.holds:
-            return _undecided(no_more) if no_more is None or not no_more.fails else \
-                self._shown(WEAKER, no_more, comparison)
-        no_less = comparison.verdict(comparison.scope, NO_LESS)
-        if no_less is None or not (no_less.holds or no_less.fails):
-            return _undecided(no_less)
-        return self._shown(OTHERWISE, verdict, comparison) if no_less.holds else \
-            self._shown(STRICTER, no_less, comparison)
-
-    def _shown(self, word: str, shown: Verdict, comparison: Pair) -> StackJudgement:
-        has_lines = self.options.has_surfaces and shown.call is not None
-        lines = compare_output.difference_lines(comparison, shown) if has_lines else ()
-        return StackJudgement(word, shown=shown, lines=tuple(islice(lines, MOST_LINES)))
-
-
-def _undecided(verdict: Verdict | None) -> StackJudgement:
-    word = verdict.word if verdict is not None else "nothing"
-    at = f" at {verdict.at}" if verdict is not None and verdict.at is not None else ""
-    return StackJudgement(NOT_KNOWN, f"scf says: {word}{at}")
 
 
 def _begin() -> None:
@@ -198,8 +85,8 @@ class Task:
             if judged["verdict"] not in AUDIT_VERDICTS:
                 raise ValueError(judged["verdict"])
             shown = verdicts.report("\n".join(judged["shown"])).verdict if judged["shown"] else None
-            self.digests[value["stack"]] = value["digest"]
-            self.rows[value["row"]].judged[value["stack"]] = value["digest"], StackJudgement(**{
+            self.digests[value["stack"]] = judged["digest"]
+            self.rows[value["row"]].judged[value["stack"]] = StackJudgement(**{
                 **judged, "shown": shown, "lines": tuple(judged["lines"]),
                 "not_compared": tuple(judged["not_compared"])})
 
@@ -213,17 +100,19 @@ class Judges:
 
     def __init__(self, options: Options) -> None:
         self.options = options
-        # by what is expected and digests of filters; the profiles that containers' settings mean, by their SHA-256; and
-        # what stacks allow
-        self.known: dict[tuple[str, str], tuple[str, StackJudgement]] = {}
+        # the verdicts, by what is expected and stacks; the profiles that containers' settings mean, by their SHA-256;
+        # and what stacks allow
+        self.known: dict[tuple[str, str], StackJudgement] = {}
         self.resolved: dict[str, str] = {}
         self.surfaces: dict[str, ShownSurface] = {}
+        # what settings mean, only in a child
+        self.meanings: dict[str, Expectation] = {}
 
     def judge(self, tasks: Sequence[Task], budget: child.Budget) -> dict[int, str]:
         """Adds the verdicts that rows wait for, and what stacks allow; says of which some still wait, and why."""
-        lacking, judge = [at for at, task in enumerate(tasks) if self.lacks(task)], StackJudge(self.options)
+        lacking = [at for at, task in enumerate(tasks) if self.lacks(task)]
         lost = child.ask_each(
-            [lambda send, seconds, task=task: judge.send_all(task, send, seconds) for task in tasks],
+            [lambda send, seconds, task=task: self.send_all(task, send, seconds) for task in tasks],
             budget.shares(lacking), lambda at, value: tasks[at].receive(value), _begin)
         if len(self.known) > MOST_KEPT:
             for kept in (self.known, self.resolved, self.surfaces):
@@ -240,7 +129,7 @@ class Judges:
                 row.expected = replace(row.expected, dropped=self.resolved[key])
             row.judged = {number: judged or self.known.get((key, of.stack_keys[number]))
                           for number, judged in row.judged.items()}
-            of.digests.update((number, judged[0]) for number, judged in row.judged.items() if judged is not None)
+            of.digests.update((number, judged.digest) for number, judged in row.judged.items() if judged is not None)
         of.surfaces_of.update((digest, self.surfaces[digest]) for digest in of.digests.values()
                               if digest in self.surfaces)
         return not of.is_over or self.options.has_surfaces and not of.surfaces_of.keys() >= {*of.digests.values()}
@@ -252,4 +141,98 @@ class Judges:
             if row.expected.dropped is not None:
                 self.resolved[key] = row.expected.dropped
             self.known.update(((key, of.stack_keys[number]), judged) for number, judged in row.judged.items()
-                              if judged is not None and judged[1].verdict != NOT_KNOWN)
+                              if judged is not None and judged.verdict != NOT_KNOWN)
+
+    def send_all(self, of: Task, send: child.Send, seconds: float) -> None:
+        """Judges, in a child, what waits, and sends that."""
+        client.begin_limits(seconds * SHARE_OF_SCF, False)
+        digests = {}
+        for at, (row, key) in enumerate(zip(of.rows, of.keys)):
+            expected = row.expected
+            if row.waits and expected.settings is not None:
+                if key not in self.meanings:
+                    self.meanings[key] = of_settings(json.loads(expected.settings), expected.runtime, expected.source,
+                                                     self.options)
+                expected = self.meanings[key]
+                send({"row": at, "digest": expected.digest, "why": expected.why})
+            for number, judgement in row.judged.items():
+                if judgement is None:
+                    stack, its_key = of.stacks[number], (key, of.stack_keys[number])
+                    if its_key not in self.known:
+                        self.known[its_key] = replace(self.judgement(stack, expected),
+                                                      digest=output.sha256(stack_bundle(stack.filters)))
+                    judgement = self.known[its_key]
+                    shown = [] if judgement.shown is None else verdicts.Report.of(judgement.shown).lines
+                    send({"row": at, "stack": number, "judgement": {
+                        **{name: getattr(judgement, name) for name in JUDGEMENT}, "shown": shown}})
+                digests[number] = judgement.digest
+        for number, digest in digests.items() if self.options.has_surfaces else ():
+            if digest not in of.surfaces_of:
+                surface = ShownSurface.of(surfaces.surface_of_filters(of.stacks[number].filters, self.options.table))
+                of.surfaces_of[digest] = surface
+                send({"stack": number, **surface.as_json()})
+
+    def judgement(self, stack: Stack, expected: Expectation) -> StackJudgement:
+        """The verdict on a stack with filters; whatever is raised meanwhile, it isn't known."""
+        try:
+            judgement = self.judge_all(stack, expected)
+            if self.options.baseline is None:
+                return judgement
+            least = self.judge_by(stack, self.options.request(self.options.baseline[1], NO_MORE), NO_MORE)
+            is_worse = least.verdict in (WEAKER, NOT_KNOWN) and least.order < judgement.order
+            return replace(least, is_of_baseline=True) if is_worse else judgement
+        except program.ToolError as why:
+            return StackJudgement(NOT_KNOWN, str(why))
+        except Exception as error:  # pylint: disable=broad-exception-caught
+            return StackJudgement(NOT_KNOWN, f"it can't be compared: {type(error).__name__}")
+
+    def judge_all(self, stack: Stack, expected: Expectation) -> StackJudgement:
+        """The verdict beside all that is expected."""
+        if expected.why is not None:
+            return StackJudgement(NOT_KNOWN, f"what is configured isn't known: {expected.why}")
+        filters = tuple(data for data in stack.filters if data != expected.beside)
+        stack = replace(stack, filters=filters) if filters else stack
+        judgements = (self.judge_by(stack, asked) for asked in (expected.asked.parts if expected.asked else (None,)))
+        worst = min(judgements, key=lambda judgement: WORST_FIRST.index(judgement.verdict))
+        if expected.doubt is None or worst.verdict in (NOT_KNOWN, AS_CONFIGURED):
+            return worst
+        return replace(worst, verdict=NOT_KNOWN, why=f"it is {worst.verdict}, but {expected.doubt}")
+
+    def judge_by(self, stack: Stack, asked: verify.Request | None, relation: str = SAME) -> StackJudgement:
+        """The verdict beside a profile, or where nothing is configured."""
+        asked_of = asked or verify.nothing_request(self.options.table)
+        comparison = asked_of.comparison(stack.named, relation)
+        # (one of which nothing is shown needs no second look)
+        verdict = comparison.known_verdict(comparison.scope, relation) if asked is None else None
+        if verdict is None:
+            comparison, _, report = comparison.run_by_stub()
+            verdict = report.verdict
+            if verdict is None:
+                return StackJudgement(NOT_KNOWN, f"scf says: {report.lines[0] if report.lines else 'nothing'}")
+        judgement = self._of_verdict(comparison, verdict)
+        if asked is None:
+            # (the call that shows it would be answered by no profile of a user)
+            return replace(judgement, shown=None, lines=())
+        names = comparison.left_out[-1].architectures
+        is_i386 = list(comparison.tables.of) == [architectures.I386]
+        return replace(judgement, not_compared=(*names, *not_compared_of(asked.profile.data)),
+                       architecture="i386" if is_i386 else None)
+
+    def _of_verdict(self, comparison: Pair, verdict: Verdict) -> StackJudgement:
+        """The verdict on what is judged: if some syscalls differ, whether any is more permissive, or any stricter."""
+        if verdict.holds:
+            return StackJudgement(AS_CONFIGURED)
+        for word, relation in ((WEAKER, NO_MORE), (STRICTER, NO_LESS)) if verdict.fails else ():
+            found = verdict if relation == comparison.relation else comparison.verdict(comparison.scope, relation)
+            if found is None or not found.holds:
+                return self._shown(word, found, comparison)
+        return self._shown(OTHERWISE, verdict, comparison)
+
+    def _shown(self, word: str, shown: Verdict | None, comparison: Pair) -> StackJudgement:
+        """The verdict with this word that scf's shows; it isn't known if that isn't."""
+        if shown is None or not shown.fails:
+            at = f" at {shown.at}" if shown is not None and shown.at is not None else ""
+            return StackJudgement(NOT_KNOWN, f"scf says: {'nothing' if shown is None else shown.word}{at}")
+        has_lines = self.options.has_surfaces and shown.call is not None
+        lines = compare_output.difference_lines(comparison, shown) if has_lines else ()
+        return StackJudgement(word, shown=shown, lines=tuple(islice(lines, MOST_LINES)))

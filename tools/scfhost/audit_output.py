@@ -191,7 +191,7 @@ def _part_json(part: RowPart, row: AuditRow, numbers: dict[str | None, int], tab
                **(shown.as_json(table) if is_shown else {}), "baseline": judgement.is_of_baseline or None,
                "not_compared": list(judgement.not_compared) or None}
     return {**{name: member for name, member in members.items() if member is not None},
-            "stack": numbers.get(part.digest), "is_unconfined": judgement.is_unconfined,
+            "stack": numbers.get(part.judgement.digest), "is_unconfined": judgement.is_unconfined,
             "processes": [{"process": process, "name": output.escaped(names.get(process, b"")),
                            "threads": len(threads)} for process, threads in part.threads.items()]}
 
@@ -254,7 +254,7 @@ def _metrics(audit: Audit) -> Iterator[output.Metric]:
         ([("kind", kind), ("user", user), ("verdict", verdict)], counts[user, kind, verdict])
         for user in (None, *sorted({row.user for row in audit.rows} - {None}))
         for kind in ROW_KINDS for verdict in AUDIT_VERDICTS if user is None or counts[user, kind, verdict]]
-    stacks = {(row.user, part.digest) for row in audit.rows for part in row.parts}
+    stacks = {(row.user, part.judgement.digest) for row in audit.rows for part in row.parts}
     for name, help_text, of_user in (
             ("unconfined_processes", "Processes with a thread that has no seccomp filter.", by_user(audit.unconfined)),
             ("confined_processes", "Processes with a thread that has a seccomp filter.", by_user(audit.confined)),
@@ -301,7 +301,7 @@ def _stacks_of(row: AuditRow, numbers: dict[str | None, int]) -> Markup:
     has_several = len({part.judgement.verdict for part in row.parts}) > 1
     items = []
     for part in row.parts:
-        at = numbers.get(part.digest)
+        at = numbers.get(part.judgement.digest)
         shown = part.judgement.why or part.description if at is None else \
             joined([tag("a", f"stack {at}", href=f"#stack-{at}"), f": {part.description}"])
         items.append(joined([f"{part.judgement.verdict}: " if has_several else "", shown]))

@@ -89,6 +89,8 @@ class StackJudgement:
     is_of_baseline: bool = False
     # whether the threads have neither a filter nor the strict mode
     is_unconfined: bool = False
+    # the SHA-256 of the stack's bundle, None if that isn't known or the stack has no filters
+    digest: str | None = None
 
     @property
     def order(self) -> tuple[bool, int]:
@@ -103,10 +105,9 @@ class RowPart:
     # the threads that have it, by their processes
     threads: dict[int, list[int]]
     judgement: StackJudgement
-    # the lengths of its filters, and the SHA-256 of their bundle, None if that isn't known or there are none
+    # the lengths of its filters
     lengths: tuple[int, ...] = ()
     is_strict: bool = False
-    digest: str | None = None
 
     @property
     def description(self) -> str:
@@ -127,8 +128,8 @@ class AuditRow:
     # the ID of the user who alone describes it, or whose processes it has; None for root
     user: int | None = None
     parts: list[RowPart] = field(default_factory=list)
-    # of its stacks, by their indexes, the SHA-256 of the bundle and the verdict; None of one that waits for these
-    judged: dict[int, tuple[str, StackJudgement] | None] = field(default_factory=dict)
+    # the verdicts on its stacks, by their indexes; None of one that waits for it
+    judged: dict[int, StackJudgement | None] = field(default_factory=dict)
 
     @property
     def waits(self) -> bool:
@@ -241,8 +242,8 @@ class Audit:
         stacks: dict[str, RowPart] = {}
         for row in sorted(self.rows, key=lambda row: row.user is not None):
             for part in row.parts:
-                if part.digest is not None:
-                    stacks.setdefault(part.digest, part)
+                if part.judgement.digest is not None:
+                    stacks.setdefault(part.judgement.digest, part)
         return stacks
 
     @property

@@ -875,7 +875,7 @@ class Snaps(Case):
 
     def test_verdicts(self):
         """The filter of all snaps makes nothing stricter than configured; a filter that allows more is weaker."""
-        expected, judge = self.expectations.of_snap("snap.web.run"), audit_judge.StackJudge(self.expectations.options)
+        expected, judge = self.expectations.of_snap("snap.web.run"), audit_judge.Judges(self.expectations.options)
         compiled = self.compile(self.file("p.json", expected.asked.profile.data))[1]
         for filters, verdict in (((compiled, self.OF_ALL), "as configured"), ((compiled,), "as configured"),
                                  ((self.OF_ALL,), "weaker"), ((gate(ret(ALLOW)), self.OF_ALL), "weaker"),
@@ -1038,15 +1038,15 @@ class Kept(Case):
         return {}
 
     def answer(self, receive):
-        receive({"row": 0, "stack": 0, "digest": "ab", "judgement": {
+        receive({"row": 0, "stack": 0, "judgement": {
             "verdict": self.verdict, "why": None, "shown": [], "not_compared": [], "lines": [], "architecture": None,
-            "is_of_baseline": False}})
+            "is_of_baseline": False, "digest": "ab"}})
 
     def judged(self, verdict, is_root):
         self.verdict = verdict
         task = self.task(is_root)
         self.assertEqual(self.judges.judge([task], audit_judge.child.Budget(1.0)), {})
-        return task.rows[0].judged[0][1].verdict
+        return task.rows[0].judged[0].verdict
 
     def test_whose_they_are(self):
         """Those on a user's things aren't taken for anything, the others for any row, but for what isn't known."""
@@ -1090,8 +1090,8 @@ class Output(Case):
                                                          image="i\x1b[0m")
         self.row = audit_rows.AuditRow(audit_rows.CONTAINER, container.identifier, [process(name=b"x\n# y")],
                                        audit_rows.Expectation(), container)
-        self.row.parts = [audit_rows.RowPart({7: [7]}, audit_rows.StackJudgement(audit_rows.NOT_KNOWN, "it\nis"), (9,),
-                                             digest="cd" * 32)]
+        judgement = audit_rows.StackJudgement(audit_rows.NOT_KNOWN, "it\nis", digest="cd" * 32)
+        self.row.parts = [audit_rows.RowPart({7: [7]}, judgement, (9,))]
         self.audit = audit_rows.Audit([self.row], machine.Snapshot({7: self.row.processes[0]}), 0.0, 1.5)
 
     def test_lines_and_json(self):

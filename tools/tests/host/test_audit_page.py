@@ -80,9 +80,9 @@ class Pages(Case):
                                     audit_rows.Expectation(source=HOSTILE),
                                container),
                 audit_rows.AuditRow(audit_rows.UNIT, "a.service", [eight], audit_rows.Expectation(why=HOSTILE))]
-        weaker = audit_rows.StackJudgement(audit_rows.WEAKER, shown=verdict,
+        weaker = audit_rows.StackJudgement(audit_rows.WEAKER, shown=verdict, digest="ab" * 32,
                                            lines=tuple(compare_output.difference_lines(asked, verdict)))
-        rows[0].parts = [audit_rows.RowPart({7: [7]}, weaker, (10,), digest="ab" * 32)]
+        rows[0].parts = [audit_rows.RowPart({7: [7]}, weaker, (10,))]
         rows[1].parts = [audit_rows.RowPart({8: [8]}, audit_rows.StackJudgement(audit_rows.NOT_KNOWN, HOSTILE,
                                                                                 is_unconfined=True))]
         snapshot = machine.Snapshot({7: seven, 8: eight}, {None: [HOSTILE]})
