@@ -255,18 +255,26 @@ ready()
         self.assertIn(f"of user {USER}: ", "".join(answer["object"]["left_out"]))
 
     def test_names_that_only_root_may_know(self):
-        """Paths through root's folders tell nothing, whether there is something or not."""
-        self.file("secret/web/config.json", "{}")
-        os.chmod(f"{self.folder}/secret", 0o700)
+        """Paths through root's folders, links into them and links to files tell nothing, whether there is something or
+        not."""
+        secret = self.file("secret/web/config.json", {"annotations": {"io.podman.annotations.name": "hidden"}})
+        hard = os.path.dirname(self.file("hard/x", ""))
+        os.link(secret, f"{hard}/config.json")
+        for path, mode in ((f"{self.folder}/secret", 0o700), (secret, 0o600)):
+            os.chmod(path, mode)
+        os.chown(hard, USER, USER)
         answer = self.attack(f"""
 os.symlink("{self.folder}/secret/web", HOME + "/link")
-for at, path in enumerate(["/root/../{self.folder}/secret/web", "{self.folder}/secret/none", HOME + "/link",
-                           HOME + "/../../../root", "/proc/1/root{self.folder}/secret/web"]):
+for at, path in enumerate(["/root/../{self.folder}/secret/web", "{self.folder}/secret/none", HOME + "/link", "{hard}",
+                           HOME + "/../../../root", "/proc/1/root{self.folder}/secret/web", "{self.folder}/secret/web",
+                           HOME + "/.." * 20 + "{self.folder}/secret/none", HOME + "/.." * 20 + "/root/.ssh"]):
     says(f"c{{at}}", sleeper(), path)
 ready()
 """)
-        whys = {row["profile"]["why"].rpartition(": ")[2] for row in self.rows_of_user(answer)}
-        self.assertEqual((len(self.rows_of_user(answer)), whys), (5, {"Permission denied"}))
+        rows = [(row["name"], row["verdict"], row["profile"]["why"].rpartition(": ")[2])
+                for row in self.rows_of_user(answer)]
+        self.assertEqual(rows, [(f"c{at}", "not known", "Permission denied") for at in range(9)])
+        self.assertNotIn("hidden", json.dumps(answer))
 
     # The user as whom files are read sends a signal to who reads them.
     HUNTS = """
@@ -355,9 +363,11 @@ ready()
         self.assertEqual(parts, [(why, ["stuck"])] * 3 + [(None, ["fine", "fine"])])
 
     def test_processes_that_come_and_go(self):
-        self.attack("""
-be(b"busy", ALLOW)
+        """With threads that do: one that stays is known."""
+        answer = self.attack("""
+be(b"stays", ALLOW)
 if not os.fork():
+    be(b"busy", ALLOW)
     while True:
         threading.Thread(target=time.sleep, args=(0.002,)).start()
         number = os.fork()
@@ -365,7 +375,10 @@ if not os.fork():
             os._exit(0)
         os.waitpid(number, 0)
 ready()
-""")
+""", **{"scfhost.audit.SECONDS_OF_USERS": 60.0})
+        (row,) = self.rows_of_user(answer)
+        self.assertIn(["stays"], [[process["name"] for process in part["processes"]] for part in row["parts"]
+                                  if part["stack"] is not None])
 
     def test_who_judges_is_stopped(self):
         """A user's row isn't known, and no other: here scf stops where it is given the user's filter."""

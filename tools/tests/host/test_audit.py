@@ -9,7 +9,7 @@ import time
 import unittest
 from unittest import mock
 
-from support.common import (ALLOW, EPERM, LOADER, TOP, Case, comes, completed, filter_of, gate, jeq, load, profile_of,
+from support.common import (ALLOW, EPERM, TOP, Case, comes, completed, filter_of, gate, jeq, load, profile_of,
                             ret, text_of, tool)
 from support import json_schema
 from support.confined import processes
@@ -27,18 +27,6 @@ STATED = {"defaultAction": "SCMP_ACT_ALLOW", "architectures": ["SCMP_ARCH_X86_64
           "syscalls": [{"names": ["mount", "ptrace"], "action": "SCMP_ACT_ERRNO", "errnoRet": 1}]}
 OTHER_ERRNO = {**STATED, "syscalls": [{"names": ["mount", "ptrace"], "action": "SCMP_ACT_ERRNO", "errnoRet": 13}]}
 STRICTER = {**STATED, "syscalls": [{"names": ["mount", "ptrace", "chroot"], "action": "SCMP_ACT_ERRNO", "errnoRet": 1}]}
-
-
-# Is under a filter, and starts threads and processes without end.
-COME_AND_GO = LOADER + """
-load(open(sys.argv[1], "rb").read())
-while True:
-    threading.Thread(target=time.sleep, args=(0.002,)).start()
-    number = os.fork()
-    if not number:
-        os._exit(0)
-    os.waitpid(number, 0)
-"""
 
 
 # Enters the control groups that it is called with, ends its main thread, and says which process it is; another thread
@@ -211,18 +199,6 @@ class Programs(Audited, OwnMachine):
         self.assertEqual([process["process"] for process in row["parts"][0]["processes"]], numbers[2:])
         self.on("sh", "-c", f"echo THAWED >{freezer}/freezer.state")
         self.assertEqual(self.audit(status=4)["rows"][0]["verdict"], "stricter")
-
-    def test_processes_that_come_and_go(self):
-        """Confined processes that start and end meanwhile, and threads that do: those that stay are known."""
-        name = self.file("loop.bpf", ret(ALLOW))
-        numbers = self.crowd(("stays", [filter_of([0])], 3, 1))
-        self.on("sh", "-c", f"/usr/bin/python3 -c '{COME_AND_GO}' {name} >/dev/null 2>&1 & sleep 0.3")
-        for _ in range(3):
-            value = self.audit(status=4)
-            (row,) = value["rows"]
-            stay = [part for part in row["parts"] if part["stack"] is not None and
-                    value["stacks"][part["stack"]]["filters"] == [9]]
-            self.assertEqual([process["process"] for process in stay[0]["processes"]], numbers)
 
     def test_what_is_expected_of_all(self):
         """--expect and --baseline: of programs, too."""
@@ -508,27 +484,6 @@ class Users(Audited, OwnMachine):
         self.says("mine", rows["inner"]["parts"][0]["processes"][0]["process"], self.users_bundle())
         rows = {row["name"]: row for row in self.audit("--allow-unconfined", status=1)["rows"]}
         self.assertEqual((set(rows), rows["inner"]["verdict"]), ({"web", "inner"}, "unconfined though configured"))
-
-    def test_what_only_root_can_read(self):
-        """A link in the bundle's path, a bundle that isn't the user's, a link to a file, and one out of a folder:
-        nothing of it is shown, not even whether it is there."""
-        secret = self.file("secret/config.json", {"linux": {}, "annotations": {"io.podman.annotations.name": "hidden"}})
-        os.chmod(os.path.dirname(secret), 0o700)
-        os.chmod(secret, 0o600)
-        mine = self.users_bundle()
-        os.symlink(os.path.dirname(secret), f"{mine}/l")
-        os.mkdir(f"{mine}/hard")
-        os.link(secret, f"{mine}/hard/config.json")
-        for path in (f"{mine}/l", f"{mine}/hard"):
-            os.chown(path, self.USER, self.USER, follow_symlinks=False)
-        for bundle in (f"{mine}/l", os.path.dirname(secret), f"{mine}/hard", f"{mine}/../secret",
-                       f"{mine}/../secret/none", f"{mine}{'/..' * 20}/root/.ssh"):
-            self.says("box", self.process("x"), bundle)
-            value = self.audit(status=4)
-            (row,) = value["rows"]
-            self.assertEqual((row["name"], row["verdict"]), ("box", "not known"), bundle)
-            self.assertTrue(row["profile"]["why"].endswith("can't be read: Permission denied"), row)
-            self.assertNotIn("hidden", json.dumps(value))
 
     def test_a_configuration_that_a_user_may_change(self):
         """What root runs says that it isn't known, and not what the user wrote."""

@@ -201,21 +201,6 @@ class OfProcesses(Hook):
         child = self.child([refusing(UMOUNT2)], [refusing(MOUNT)])
         self.assertEqual(self.hook(child, refuses("mount"), status="created")[0], 1)
 
-    def test_kill(self):
-        """It is killed wherever it isn't known to be confined as configured, and else runs on."""
-        for profile, words in ((refuses("mount"), ()), (refuses("umount2"), ("--limit=0",)), (b"{", ()),
-                               (refuses("umount2", architectures=7), ()), (None, ())):
-            child = self.child([refusing(UMOUNT2)])
-            self.assertNotEqual(self.hook(child, profile, *words)[0], 0)
-            self.runs_on(child)
-            status, lines = self.hook(child, profile, *words, "--kill")
-            self.assertNotEqual(status, 0)
-            self.assertEqual(lines[1], f"process {child.pid} was killed")
-            self.assertEqual(child.wait(PATIENCE), -signal.SIGKILL)
-        child = self.child([refusing(UMOUNT2)])
-        self.assertEqual(self.hook(child, refuses("umount2"), "--kill")[0], 0)
-        self.runs_on(child)
-
     def test_dry_run(self):
         """It only reports, also where its own words are wrong, and whatever fails."""
         child = self.child([refusing(UMOUNT2)])
@@ -239,17 +224,23 @@ class OfProcesses(Hook):
         self.assertEqual(self.run_tool("oci-hook", "--print-hook", "--dry-run", "--wait", "x")[0], 2)
 
     def test_statuses(self):
-        child = self.child([refusing(MOUNT)])
-        for profile, words, status in ((refuses("mount"), (), 0), (refuses("umount2"), (), 1),
-                                       (refuses("mount"), ("--limit=0",), 4), (b'{"linux":{"seccomp":{}}}', (), 1),
-                                       (b"{", (), 2), (b"[]", (), 2), (b'{"linux":7}', (), 2),
-                                       (b'{"ociVersion":"1.0.2"}', (), 1), (None, (), 1),
-                                       (None, ("--allow-unconfined",), 0), (refuses("umount2"), (
-                                           "--allow-unconfined",), 1)):
-            self.assertEqual(self.hook(child, profile, *words)[0], status, profile)
-        self.fails(self.state(child.pid, os.path.join(self.folder, "none")), "there is no file '")
-        self.fails(self.state(child.pid, self.bundle(b" " * (1 << 22 | 1))), "has more than")
-        self.runs_on(child)
+        """With --kill it is killed wherever it isn't known to be confined as configured, and else runs on."""
+        for profile, words, wanted in (
+                (refuses("umount2"), (), 0), (refuses("mount"), (), 1), (refuses("umount2"), ("--limit=0",), 4),
+                (refuses("umount2", architectures=7), (), 2), (b'{"linux":{"seccomp":{}}}', (), 1), (b"{", (), 2),
+                (b"[]", (), 2), (b'{"linux":7}', (), 2), (b'{"ociVersion":"1.0.2"}', (), 1), (None, (), 1),
+                (None, ("--allow-unconfined",), 0), (refuses("mount"), ("--allow-unconfined",), 1)):
+            child = self.child([refusing(UMOUNT2)])
+            self.assertEqual(self.hook(child, profile, *words)[0], wanted, profile)
+            self.runs_on(child)
+            lines = self.of_status(wanted, self.hook(child, profile, *words, "--kill"))
+            if wanted:
+                self.assertEqual(lines[1], f"process {child.pid} was killed")
+                self.assertEqual(child.wait(PATIENCE), -signal.SIGKILL)
+            else:
+                self.runs_on(child)
+        self.fails(self.state(os.getpid(), os.path.join(self.folder, "none")), "there is no file '")
+        self.fails(self.state(os.getpid(), self.bundle(b" " * (1 << 22 | 1))), "has more than")
 
     def test_wrong_words(self):
         """A misspelt option lets nothing run that isn't known to be confined."""
