@@ -17,7 +17,7 @@ from scftools.forms.filters import Filter
 from scftools.forms.lists import lxc, sandbox_rules, snapd
 from scftools.forms.profile_inputs import ProfileInput
 from scftools.report import compare_output
-from . import configurations, container_files, owned_files, sandbox_programs, unit_profiles, units, verify
+from . import configurations, container_files, owned_files, sandbox_programs, units, verify
 from .audit_rows import CONTAINER, OTHER_PROGRAM, UNIT, AuditRow, Expectation
 from .container_files import SLICE_OF_A_USER, ContainerDescription, Membership
 from .machine import Process, Snapshot
@@ -167,8 +167,8 @@ class Expectations:
             if not settings.have_filters:
                 return Expectation(source=source)
             # (one profile names all if x86-64 alone is judged)
-            groups = unit_profiles.groups_of(settings) if self.options.scope is None else [settings.architectures]
-            profiles = [unit_profiles.profile_of(settings, group).encode() for group in groups]
+            groups = units.groups_of(settings) if self.options.scope is None else [settings.architectures]
+            profiles = [units.profile_of(settings, group).encode() for group in groups]
         except program.ToolError as why:
             return Expectation(source=source, why=str(why))
         return self._of_groups(profiles, source, settings.doubt)

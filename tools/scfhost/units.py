@@ -1,23 +1,31 @@
-"""systemd units: their syscall settings, as systemd shows them.
+"""systemd units: their syscall settings, as systemd shows them, and the profiles of these: what all filters answer
+together that systemd adds.
 
 The rules are those of systemd.exec(5). SystemCallFilter= is a list of what is allowed, or after `~` of what is denied,
 by SystemCallErrorNumber= or by an errno of its own. SystemCallLog= is a list of what is logged, or after `~` of what
 isn't. SystemCallArchitectures= are the architectures of which calls are permitted, beside the native one; where it is
-empty, all of them are. What other settings deny stands in unit_restrictions.py.
+empty, all of them are. What other settings deny stands in unit_restrictions.py. They may deny something else on i386
+than on x86-64 and x32, which one profile can't say: then there are two.
 """
 from __future__ import annotations
 
 import functools
+import itertools
+import json
 import os
 from collections.abc import Callable, Collection, Iterator, Sequence
 
 from scftools.base import output, program
-from scftools.base.values import dataclass, field, unless_refused
-from scftools.model import libseccomp
+from scftools.base.values import Any, dataclass, field, unless_refused
+from scftools.model import architectures, libseccomp
 from scftools.model.answers import ALLOW, ENOSYS, KILL_PROCESS, Answer
 from scftools.model.architectures import NATIVE
+from scftools.model.profiles import DerivedProfile
+from scftools.ask.explanation import join_names
 from scftools.forms.lists import unit_restrictions
-from scftools.forms.lists.unit_restrictions import KILL_NUMBERS, SettingError, answer_of_errno
+from scftools.forms.lists.sandbox_rules import Policy, Rule
+from scftools.forms.lists.unit_restrictions import (
+    KILL_NUMBERS, Alternative, Restriction, SettingError, answer_of_errno)
 
 PROPERTIES = ("Id", "MainPID", "LoadState", "NeedDaemonReload", "FragmentPath", "DropInPaths", "SystemCallFilter",
               "SystemCallErrorNumber", "SystemCallArchitectures", "SystemCallLog",
@@ -43,10 +51,6 @@ LOCAL = (NATIVE, "SCMP_ARCH_X86", "SCMP_ARCH_X32")
 MOST_PRINTED_BYTES, DEEPEST_GROUP = 1 << 20, 16
 # The most bytes of a unit's file, and the most names that are listed as left out.
 MOST_FILE_BYTES, MOST_TOLD = 1 << 20, 20
-
-
-class UnknownSettings(Exception):
-    """The contents of a unit's files can't be known."""
 
 
 @dataclass
@@ -92,22 +96,15 @@ class UnitSettings:
     def answer_of(self, name: str | None, first: str | None = None) -> Answer:
         """The lists' answer to a syscall by this name; None stands for one that no list names. A list that has the name
         `first` goes by that."""
-        answer = ALLOW
         if self.filter is not None:
             listed_name = first if first in self.filter.calls else name
             errno_answer = self.filter.calls.get(listed_name) if listed_name is not None else None
-            is_denied = errno_answer is not None or (listed_name in self.filter.calls) == self.filter.is_inverted
-            refusal = self.refusal if self.known_names is None or listed_name in self.known_names else ENOSYS
-            answer = (errno_answer or refusal) if is_denied else ALLOW
-        if answer != ALLOW or self.log is None:
-            return answer
-        is_logged = (name in self.log.calls or first in self.log.calls) != self.log.is_inverted
+            if errno_answer is not None or (listed_name in self.filter.calls) == self.filter.is_inverted:
+                is_known = self.known_names is None or listed_name in self.known_names
+                return errno_answer or (self.refusal if is_known else ENOSYS)
+        is_logged = self.log is not None and (
+            name in self.log.calls or first in self.log.calls) != self.log.is_inverted
         return Answer("LOG", 0) if is_logged else ALLOW
-
-    def names(self) -> Iterator[str]:
-        """The names of all lists, and those that are known, each once."""
-        lists = [call_list.calls for call_list in (self.filter, self.log) if call_list is not None]
-        yield from dict.fromkeys(name for calls in (*lists, self.known_names or ()) for name in calls)
 
 
 def refusal_of(text: str) -> Answer:
@@ -163,9 +160,9 @@ class ListReader:
 
     def known_calls(self) -> list[str]:
         """The calls of x86-64 that systemd knows: those of @known, but not of the groups in it."""
-        library = libseccomp.Library()
-        numbers = {name: library.number_of(name) for name in self.groups.get("@known", ())}
-        return [name for name, number in numbers.items() if number is not None and number >= 0]
+        number_of = libseccomp.Library().number_of
+        return [name for name in self.groups.get("@known", ())
+                if (number := number_of(name)) is not None and number >= 0]
 
     def add(self, call_list: CallList, word: str, is_inverted: bool) -> None:
         """Adds a word of a list to what was listed before, or takes it away, as systemd merges assignments."""
@@ -238,11 +235,9 @@ def all_groups() -> dict[str, list[str]]:
     members: list[str] = []
     for line in printed_by(["systemd-analyze", "--no-pager", "syscall-filter"]).split("\n"):
         word = line.strip()
-        if not word or word.startswith("#"):
-            continue
         if line.startswith("@"):
             members = groups.setdefault(word, [])
-        else:
+        elif word and not word.startswith("#"):
             members.append(word)
     return groups
 
@@ -265,7 +260,8 @@ def assignments_of(text: str, section: str, setting: str) -> Iterator[str]:
 
 
 def files_of(shown: dict[str, str]) -> Iterator[str]:
-    """The texts of the files from which systemd read a unit: its own file, and the drop-ins in their order."""
+    """The texts of the files from which systemd read a unit: its own file, and the drop-ins in their order. Raises
+    ValueError, as does `denied_by`, where they can't be known."""
     import shlex  # pylint: disable=import-outside-toplevel
 
     # (a tool in a container of the machine has another root; only root may look, and others aren't in one with the
@@ -276,9 +272,9 @@ def files_of(shown: dict[str, str]) -> Iterator[str]:
             with open(root + path, "rb") as file:
                 data = file.read(MOST_FILE_BYTES + 1)
         except OSError as error:
-            raise UnknownSettings(f"'{output.escaped(path)}' can't be read: {error.strerror}") from error
+            raise ValueError(f"'{output.escaped(path)}' can't be read: {error.strerror}") from error
         if len(data) > MOST_FILE_BYTES:
-            raise UnknownSettings(f"'{output.escaped(path)}' has more than {MOST_FILE_BYTES} bytes")
+            raise ValueError(f"'{output.escaped(path)}' has more than {MOST_FILE_BYTES} bytes")
         yield data.decode("utf-8", "surrogateescape")
 
 
@@ -288,7 +284,7 @@ def denied_by(shown: dict[str, str], allowed: CallList, reader: ListReader) -> d
     systemd doesn't show them (property_get_syscall_filter of its core/dbus-execute.c), so the unit's files are read.
     """
     if shown.get("NeedDaemonReload") != "no":
-        raise UnknownSettings("its files changed since systemd read them; run systemctl daemon-reload")
+        raise ValueError("its files changed since systemd read them; run systemctl daemon-reload")
     section = SECTIONS.get(shown.get("Id", "").rpartition(".")[2], "")
     values = [value for text in files_of(shown) for value in assignments_of(text, section, "SystemCallFilter")]
     if not any(value.startswith("~") and ":" in value for value in values):
@@ -299,7 +295,7 @@ def denied_by(shown: dict[str, str], allowed: CallList, reader: ListReader) -> d
     calls = listed.calls if listed is not None else {}
     answers = {call: answer for call, answer in calls.items() if answer is not None}
     if listed is None or listed.is_inverted or not allowed.calls.keys() <= calls.keys() - answers.keys():
-        raise UnknownSettings("the list in its files differs from the one that systemd shows")
+        raise ValueError("the list in its files differs from the one that systemd shows")
     return answers
 
 
@@ -327,7 +323,7 @@ def settings_in(shown: dict[str, str], unit: str, reader: ListReader) -> UnitSet
     if call_list is not None and not call_list.is_inverted:
         try:
             call_list.calls.update(denied_by(shown, call_list, reader))
-        except (UnknownSettings, ValueError) as why:
+        except ValueError as why:
             raise program.ToolError("systemctl show doesn't print which syscalls the allow-list denies with an errno "
                                     f"of their own, and the unit's files don't say it: {why}",
                                     program.UNKNOWN) from why
@@ -346,3 +342,86 @@ def settings_in(shown: dict[str, str], unit: str, reader: ListReader) -> UnitSet
         del settings.restrictions["MemoryDenyWriteExecute"]
         reader.tell("MemoryDenyWriteExecute= is applied by prctl(2), and has no filter")
     return settings
+
+
+def groups_of(settings: UnitSettings) -> list[list[str]]:
+    """The architectures that a unit permits, together with those on which the same is denied; the native one first."""
+    groups: dict[str, list[str]] = {}
+    for oci in settings.architectures:
+        groups.setdefault(repr(unit_restrictions.rules_of(settings.restrictions, oci)), []).append(oci)
+    return list(groups.values())
+
+
+def _answers_to(settings: UnitSettings, name: str, restriction: Restriction | None,
+                is_multiplexer: bool) -> Iterator[tuple[Answer, Alternative]]:
+    """The answers to a syscall with their conditions. The lists answer what they deny, and a restriction the rest.
+    Where a list doesn't name i386's socketcall or ipc, libseccomp adds the rules of what that is called for: each names
+    it by argument 0."""
+    answer, allowed = settings.answer_of(name), [()]
+    if is_multiplexer:
+        answers = {number: settings.answer_of(call, name) for call, number in libseccomp.CALL_NUMBERS[name].items()}
+        others = [number for number in answers if answers[number] != answer]
+        yield from ((answers[number], conditions) for number in others
+                    for conditions in unit_restrictions.among(0, [number]))
+        allowed = unit_restrictions.outside(0, others) if others else allowed
+    elif restriction is not None and not answer.denies:
+        yield from ((restriction.answer, conditions) for conditions in restriction.denied)
+        allowed = restriction.allowed
+    yield from ((answer, conditions) for conditions in allowed)
+
+
+def profile_of(settings: UnitSettings, group: Sequence[str]) -> str:
+    """The text of the profile that the settings describe, for architectures of one group."""
+    policy = Policy(settings.answer_of(None), architectures=group)
+    rules = unit_restrictions.rules_of(settings.restrictions, group[0])
+    multiplexers = libseccomp.CALL_NUMBERS if architectures.I386 in group else {}
+    lists = [call_list.calls for call_list in (settings.filter, settings.log) if call_list is not None]
+    for name in dict.fromkeys(itertools.chain(*lists, settings.known_names or (), rules, multiplexers)):
+        answers = _answers_to(settings, name, rules.get(name), name in multiplexers)
+        policy.rules += (Rule(name, answer, conditions) for answer, conditions in answers if answer != policy.default)
+    return json.dumps(policy.profile(), indent=4) + "\n"
+
+
+def _settings_of(name: str | None, options: Any, say: Callable[[str], None]) -> UnitSettings:
+    """The settings of a unit, as systemctl shows them, or without a name those that a command line says."""
+    reader = ListReader(all_groups, say)
+    if name is not None:
+        if not name or set(name) & set("*?[\0"):
+            raise program.ToolError(f"'{name}' isn't the name of a unit")
+        settings = settings_in(shown_by_systemctl([name])[0], name, reader)
+    else:
+        try:
+            reader.is_call = libseccomp.Library().knows
+        except program.ToolError as why:
+            say(f"names that libseccomp doesn't know can't be left out, as systemd may do: {why}")
+        settings = UnitSettings(reader.assigned(options.set), refusal_of(options.errno or ""),
+                                architectures_of(options.unit_architectures or ""),
+                                reader.assigned(options.log or (), None))
+    reader.tell_unknown()
+    return settings
+
+
+def profile_of_unit(name: str | None, say: Callable[[str], None], options: Any = None) -> DerivedProfile:
+    """The profile of a unit, or of the settings that a command line says, for the architecture that it says. By default
+    it is this one's, and `others` are those for architectures on which something else is denied."""
+    wanted = architectures.judged_in((options and options.arch) or NATIVE)
+    settings = _settings_of(name, options, say)
+    groups = groups_of(settings)
+    if options is not None:
+        groups = [group for group in groups if wanted.oci in group]
+        if not groups:
+            raise program.ToolError(f"the unit permits no {wanted.name} syscalls")
+        alike, others = (architectures.names_of([oci for oci in LOCAL if oci in settings.architectures
+                                                 and (oci in groups[0]) == is_alike]) for is_alike in (True, False))
+        if others:
+            say(f"the profile is only for {join_names(alike)}: the unit denies other syscalls on {join_names(others)} "
+                f"(--arch {others[0]})")
+        if settings.filter is None:
+            say("there is no SystemCallFilter: every syscall is allowed"
+                + (" that no other setting denies" if settings.restrictions else ""))
+    first, *others = (profile_of(settings, group).encode() for group in groups)
+    if settings.doubt is not None:
+        say(settings.doubt)
+    profile = DerivedProfile(first)
+    profile.others = tuple(others)
+    return profile

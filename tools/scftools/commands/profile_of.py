@@ -193,13 +193,13 @@ def of_engine(data, options):
 
 def of_unit(options):
     """Prints what the settings of a unit, or those that are given, describe."""
-    from scfhost import unit_profiles  # pylint: disable=import-outside-toplevel
+    from scfhost import units  # pylint: disable=import-outside-toplevel
 
     words.refuse(options, (*OF_FILTERS[1:], *OF_ENGINES), "doesn't speak of a unit")
     remarks = []
     say = remarks.append if options.json else program.say
     name = options.inputs[0].removeprefix(inputs.UNIT) if options.inputs else None
-    data = unit_profiles.profile_of_unit(name, say, options)
+    data = units.profile_of_unit(name, say, options)
     return put_profile(data, json.loads(data), options, remarks)
 
 

@@ -152,9 +152,9 @@ def read_text(name: str, kind: str | None = None) -> bytes:
     """The text of a profile: of a file, a pipe or standard input, or what a unit's settings describe. What is too long
     is refused if a kind of inputs is given, and else by scf."""
     if name.startswith(inputs.UNIT):
-        from scfhost import unit_profiles  # pylint: disable=import-outside-toplevel
+        from scfhost import units  # pylint: disable=import-outside-toplevel
 
-        data = unit_profiles.profile_of_unit(name.removeprefix(inputs.UNIT), program.say)
+        data = units.profile_of_unit(name.removeprefix(inputs.UNIT), program.say)
         inputs.keep(name, data)
         return data
     if name.startswith(inputs.PROCESS):
