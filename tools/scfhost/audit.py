@@ -23,7 +23,6 @@ from .container_files import described_containers
 from .expectations import Expectations, Options, RowMaker
 from .processes import Kernel
 from .ptrace import ticks_at_start
-from .turnover import COMES_AND_GOES, LOOKS, Turnover
 
 # How long a process may take to load its filter after its container or unit starts, in seconds.
 TO_CONFINE = 0.5
@@ -145,7 +144,7 @@ def audit_machine(options: Options, judges: Judges) -> Audit:
     snapshot = machine.read_machine(kernel, why)
     containers = described_containers(kernel, snapshot, options.roots, child.Budget(SECONDS_OF_FILES))
     maker = RowMaker(kernel, snapshot, Expectations(options), containers)
-    turnover = Turnover(kernel, maker.members.grouped)
+    turnover = machine.Turnover(kernel, {place.container.first: place.group for place in maker.members.grouped})
     turnover.look()
     rows = maker.rows()
     assessor = Assessor(kernel, snapshot, judges, why)
@@ -154,9 +153,9 @@ def audit_machine(options: Options, judges: Judges) -> Audit:
     assessor.look_again([row for row in rows if row.parts])
     turnover.look()
     for row in rows:
-        if row.container is not None and row.user is None and turnover.gone[row.container.first] >= LOOKS and row.parts:
-            first = row.container.first
-            row.parts.append(RowPart({first: [first]}, StackJudgement(NOT_KNOWN, COMES_AND_GOES)))
+        first = row.container.first if row.container is not None and row.user is None else 0
+        if turnover.gone[first] >= machine.LOOKS and row.parts:
+            row.parts.append(RowPart({first: [first]}, StackJudgement(NOT_KNOWN, machine.COMES_AND_GOES)))
             row.parts.sort(key=lambda part: part.judgement.order)
     rows = sorted((row for row in rows if row.parts), key=lambda row: row.order)
     of_root = {part.judgement.digest for row in rows if row.user is None for part in row.parts}

@@ -1,4 +1,5 @@
-"""All processes of a machine, as /proc describes them, in one pass, and what wasn't looked at.
+"""All processes of a machine, as /proc describes them, in one pass, and what wasn't looked at; and which containers'
+processes come and go too fast for that.
 
 /proc says of each thread whether it has a filter. The processes of the kernel, those that have ended, and this tool are
 left out.
@@ -8,13 +9,15 @@ from __future__ import annotations
 import os
 import re
 import time
+from collections import Counter
 from collections.abc import Mapping
+from itertools import islice
 
 from scftools.base import output
 from scftools.base.values import Any, Pattern, dataclass, field, unless_refused
+from .containers import Group
 from .hold import PF_KTHREAD
-from .processes import Kernel
-from .ptrace import PROC_PID_INIT_INO, contents, has_ended, ticks_at_start
+from .ptrace import PROC_PID_INIT_INO, Kernel, contents, has_ended, stat_of, ticks_at_start
 
 # How often processes that started meanwhile are looked for.
 LISTINGS = 3
@@ -22,6 +25,10 @@ LISTINGS = 3
 MOST_REASONS, MOST_OF_REASON = 3, 200
 # In /proc/THREAD/status, of a thread that is in a mode of seccomp(2).
 CONFINED = Pattern(rb"^Seccomp:\t[12]", re.M)
+# How often the groups of containers are looked at, and read in a look, with which pause in seconds; and how many groups
+# below a container's own are.
+LOOKS, READS, PAUSE, MOST_GROUPS = 3, 4, 0.005, 100
+COMES_AND_GOES = "it has processes that come and go faster than they can be looked at"
 
 
 @dataclass(frozen=True)
@@ -133,3 +140,25 @@ def read_machine(kernel: Kernel, why: str | None) -> Snapshot:
         described = (process_of_number(kernel, number) for number in unread if number != kernel.tool)
         snapshot.processes.update((process.number, process) for process in described if process is not None)
     return snapshot
+
+
+class Turnover:
+    """Looks at the control groups of containers of root's, by their first processes: an audit may see none of those
+    processes that come and go fast."""
+
+    def __init__(self, kernel: Kernel, groups: Mapping[int, Group]) -> None:
+        found = {first: kernel.group_folder(group.hierarchy, group.path) for first, group in groups.items()}
+        self.folders = {first: os.fsdecode(b"".join(folder)) for first, folder in found.items() if folder is not None}
+        # in how many looks a listed process was gone
+        self.gone: Counter[int] = Counter()
+
+    def look(self) -> None:
+        groups = {first: [path for path, _, _ in islice(os.walk(folder), MOST_GROUPS)]
+                  for first, folder in self.folders.items()}
+        listed: dict[int, set[bytes]] = {first: set() for first in groups}
+        for _ in range(READS):
+            for first, paths in groups.items():
+                listed[first].update(number for path in paths for number in contents(f"{path}/cgroup.procs").split())
+            time.sleep(PAUSE)
+        self.gone.update(first for first, numbers in listed.items()
+                         if any(stat_of(int(number))[:1] in ([], [b"Z"], [b"X"]) for number in numbers))

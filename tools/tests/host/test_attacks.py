@@ -106,7 +106,7 @@ class Containers(Audits):
         for name, script in (("busy", "while :; do sleep 0; done"), ("checked", "while :; do sleep 1800; done")):
             self.container("runc", name, STATED, args=("sh", "-c", script))
         # (so long a look that the one process has its turn on any machine)
-        for answer in self.audits(**{"scfhost.turnover.PAUSE": 0.1}):
+        for answer in self.audits(**{"scfhost.machine.PAUSE": 0.1}):
             rows = {row["name"]: row for row in answer["object"]["rows"]}
             self.assertEqual({name: row["verdict"] for name, row in rows.items()},
                              {"busy": "not known", "checked": "as configured"})
