@@ -20,7 +20,7 @@ import time
 from collections.abc import Callable, Sequence
 
 from scftools.base import child, inputs, output, program
-from scftools.base.values import Any, dataclass
+from scftools.base.values import Any, dataclass, unless_refused
 from scftools.model import profiles
 from scftools.ask import verdicts
 from scftools.forms import engines
@@ -29,8 +29,6 @@ from . import configurations, containers, hold, processes, verify
 from .configurations import ContainerError
 from .processes import Kernel
 from .ptrace import has_ended
-from .watchdog import Watchdog, is_ready
-
 
 # The verdict on a container whose configuration has no profile.
 UNSTATED = "unstated"
@@ -62,6 +60,11 @@ class ContainerState:
     @property
     def description(self) -> str:
         return f"container {output.escaped(self.name)}"
+
+
+def is_ready(file: int, until: float) -> bool:
+    """Waits until there is something to read, or an end, until this time at the latest."""
+    return bool(select.select([file], [], [], max(0.0, until - time.monotonic()))[0])
 
 
 def container_of(data: bytes) -> ContainerState:
@@ -289,6 +292,38 @@ def unknown(status: int | None, seconds: float) -> HookResult:
         return failure("scf can't be run", program.NOT_BUILT)
     how = f"signal {-status}" if status < 0 else f"status {status}"
     return failure(f"the check ended with {how}")
+
+
+class Watchdog:
+    """A process that acts at a deadline, or as soon as its parent has ended, unless it is dismissed before.
+
+    It takes no signal but SIGKILL and SIGSTOP, and has a process group of its own, so that what ends or stops the
+    hook's group leaves it alone. A hook that still exists after it has acted hangs or is stopped: it is killed.
+    """
+
+    def __init__(self, act: Callable[[], object], until: float) -> None:
+        # The hook keeps both ends: a write to a watchdog that has ended isn't to end the hook.
+        self.file, self.end = os.pipe()
+        hook, watchdog = os.getpid(), os.fork()
+        # both do it, so that it is done before either continues
+        unless_refused(None, os.setpgid, watchdog, watchdog)
+        if watchdog:
+            return
+        try:
+            is_dismissed = False
+            with contextlib.suppress(Exception):
+                os.close(self.end)
+                signal.pthread_sigmask(signal.SIG_BLOCK, signal.valid_signals())
+                is_dismissed = is_ready(self.file, until) and os.read(self.file, 1) != b""
+            if not is_dismissed:
+                act()
+                if os.getppid() == hook:
+                    os.kill(hook, signal.SIGKILL)
+        finally:
+            os._exit(program.TROUBLE)
+
+    def dismiss(self) -> None:
+        os.write(self.end, b"\n")
 
 
 class Examination:
