@@ -15,7 +15,7 @@ from collections.abc import Sequence
 from scftools.base import program
 from scftools.base.values import dataclass, replace
 from scftools.model import bundles
-from scftools.model.answers import ALLOWED, DENIED, FIRST_X32, I386_NUMBER, X86_64, Answer
+from scftools.model.answers import ALLOW, ALLOWED, DENIED, FIRST_X32, I386_NUMBER, X86_64, Answer
 from scftools.model.bpf import INSTRUCTION, RETURN_CONSTANT
 from scftools.model.calls import REGISTER_MASKS, Call, arguments_in
 from scftools.ask import client, regions, verdicts
@@ -61,23 +61,12 @@ def may_notify(filters: Sequence[bytes]) -> bool:
 
 @dataclass(frozen=True)
 class InterruptedSyscall:
-    """An interrupted syscall: the number with which it would continue, and what it may be.
+    """An interrupted syscall, which is of x86-64 or of i386 if the kernel doesn't report the architecture."""
 
-    If the kernel doesn't report the architecture, it is a syscall of x86-64 or of i386.
-    """
-
-    number: int
     calls: tuple[Call, ...]
-
-    @property
-    def goes_on(self) -> bool:
-        """Whether restart_syscall is called instead."""
-        return self.number == ERESTART_RESTARTBLOCK
-
-    @property
-    def anew(self) -> int:
-        """The number with which it starts again."""
-        return ERESTARTNOHAND if self.goes_on else self.number
+    # the number with which it starts again, and whether restart_syscall would be called instead
+    anew: int
+    goes_on: bool
 
 
 class Restarts:
@@ -107,10 +96,10 @@ class Restarts:
         number = restart_number(registers)
         if not number:
             return
-        architecture = self.kernel.architecture_of_call(thread)
-        architectures_of_call = (architecture,) if architecture in RESTART else tuple(RESTART)
-        interrupted = InterruptedSyscall(number, tuple(call_of(oci, registers) for oci in architectures_of_call))
-        if interrupted.goes_on:
+        architecture, goes_on = self.kernel.architecture_of_call(thread), number == ERESTART_RESTARTBLOCK
+        calls = (call_of(each, registers) for each in ((architecture,) if architecture in RESTART else RESTART))
+        interrupted = InterruptedSyscall(tuple(calls), ERESTARTNOHAND if goes_on else number, goes_on)
+        if goes_on:
             self.kernel.set_result(thread, -interrupted.anew)
         self.calls[thread] = interrupted
 
@@ -124,8 +113,6 @@ class Restarts:
     def number(self, interrupted: InterruptedSyscall, filters: tuple[bytes, ...]) -> int:
         """The number with which a syscall continues: restart_syscall's if that is allowed; else its own, from the
         start. If it is denied itself, since its thread got another filter meanwhile, it ends with EINTR."""
-        if not filters:
-            return interrupted.number
         calls = interrupted.calls
         if interrupted.goes_on and all(self.becomes(filters, restart_of(call)) == ALLOWED for call in calls):
             return ERESTART_RESTARTBLOCK
@@ -141,7 +128,7 @@ class Restarts:
 
     def becomes(self, filters: tuple[bytes, ...], call: Call) -> str | None:
         """The disposition of a syscall, or None if it isn't known."""
-        answer = self.answer(filters, call)
+        answer = self.answer(filters, call) if filters else ALLOW
         return None if answer is None else answer.disposition
 
     def answer(self, filters: tuple[bytes, ...], call: Call) -> Answer | None:
