@@ -38,6 +38,8 @@ SURE_TIMES, SURE_AFTER, SURE_SOON, MOST_VAIN_WAITS = 10, 3, 0.5, 4
 PAUSE, PAUSE_UNHELD = 0.005, 0.02
 # The state of a stopped thread, as waitpid(2) gives it.
 STOPPED = 0x7F
+# What helps where a right is missing.
+AS_ROOT = "run this as root, outside of containers"
 
 
 class Unreadable(Exception):
@@ -62,8 +64,7 @@ def why_no_filters(kernel: Kernel) -> str | None:
     if status.get("Seccomp", "0") != "0":
         return "this tool runs under a filter itself, so the kernel shows it none: run it outside of containers"
     if not int(status.get("CapEff", "0"), 16) >> CAP_SYS_ADMIN & 1:
-        return ("the kernel shows filters only to a process with CAP_SYS_ADMIN: run this as root, outside of "
-                "containers")
+        return f"the kernel shows filters only to a process with CAP_SYS_ADMIN: {AS_ROOT}"
     return None
 
 
@@ -87,7 +88,7 @@ def why_not_traced(kernel: Kernel, thread: int, process: int, error: OSError) ->
     if tracer is not None:
         return f"{who} is already traced by process {tracer}, and can have only one tracer"
     if not int(kernel.status_of(os.getpid()).get("CapEff", "0"), 16) >> CAP_SYS_PTRACE & 1:
-        return f"{who} can't be stopped without CAP_SYS_PTRACE: run this as root, outside of containers"
+        return f"{who} can't be stopped without CAP_SYS_PTRACE: {AS_ROOT}"
     if contents("/proc/sys/kernel/yama/ptrace_scope").strip() == b"3":
         return f"{who} can't be stopped: tracing is disabled (kernel.yama.ptrace_scope is 3)"
     return None
@@ -248,8 +249,7 @@ class Hold:
         if why is None and is_zombie:
             self.passed_over[process] = "is a zombie: it has ended, and waits for its parent"
             return False
-        raise Unreadable(why or f"{called(thread, process)} can't be stopped ({error.strerror}): run this as root, "
-                                f"outside of containers") from error
+        raise Unreadable(why or f"{called(thread, process)} can't be stopped ({error.strerror}): {AS_ROOT}") from error
 
     def settle(self, seconds: float) -> None:
         """Waits for those that were told to stop, no longer than this."""
@@ -323,18 +323,15 @@ class Hold:
         return Unreadable(f"threads came and went for {self.patience:g} seconds, faster than they can be stopped")
 
 
-def why_no_filter(thread: int, process: int, index: int, error: OSError) -> str:
-    if error.errno == errno.EACCES:
-        return ("the kernel shows filters only to a process with CAP_SYS_ADMIN that has no filter of its own: run this "
-                "as root, outside of containers")
-    if error.errno == errno.EINVAL:
-        return "this kernel doesn't show filters: it was built without CONFIG_CHECKPOINT_RESTORE"
-    if error.errno in (errno.EIO, errno.ENOSYS):
-        return f"this kernel doesn't show filters: {error.strerror}"
-    if error.errno == errno.EMEDIUMTYPE:
-        return (f"filter {index} of {called(thread, process)} isn't kept as classic BPF, so the kernel can't show "
-                f"it")
-    return f"filter {index} of {called(thread, process)} can't be read: {error.strerror}"
+def why_not_shown(this: str, error: OSError) -> str:
+    """Why the kernel doesn't show this filter."""
+    never = "this kernel doesn't show filters"
+    return {errno.EACCES: f"the kernel shows filters only to a process with CAP_SYS_ADMIN that has no filter of its "
+                          f"own: {AS_ROOT}",
+            errno.EINVAL: f"{never}: it was built without CONFIG_CHECKPOINT_RESTORE",
+            errno.EIO: f"{never}: {error.strerror}", errno.ENOSYS: f"{never}: {error.strerror}",
+            errno.EMEDIUMTYPE: f"{this} isn't kept as classic BPF, so the kernel can't show it"
+            }.get(error.errno, f"{this} can't be read: {error.strerror}")
 
 
 def filter_at(kernel: Kernel, thread: int, process: int, index: int) -> bytes | None:
@@ -346,35 +343,26 @@ def filter_at(kernel: Kernel, thread: int, process: int, index: int) -> bytes | 
     import ctypes  # pylint: disable=import-outside-toplevel
 
     room = ctypes.create_string_buffer(BPF_MAXINSNS * INSTRUCTION.size)
+    this = f"filter {index} of {called(thread, process)}"
     try:
         count = kernel.ptrace(PTRACE_SECCOMP_GET_FILTER, thread, index, None)
-        if count <= BPF_MAXINSNS:
-            again = kernel.ptrace(PTRACE_SECCOMP_GET_FILTER, thread, index, room)
+        if count > BPF_MAXINSNS:
+            raise Unreadable(f"{this} has {count} instructions, more than a filter may have")
+        again = kernel.ptrace(PTRACE_SECCOMP_GET_FILTER, thread, index, room)
     except OSError as error:
-        if error.errno == errno.ENOENT:
+        has_none = error.errno == errno.EINVAL and index == 0 and kernel.status_of(thread).get("Seccomp") in ("0", "1")
+        if has_none or error.errno == errno.ENOENT:
             return None
-        if error.errno == errno.ESRCH:
-            raise Ended(thread) from error
-        mode = kernel.status_of(thread).get("Seccomp")
-        if error.errno == errno.EINVAL and index == 0 and mode in ("0", "1"):
-            return None
-        raise Unreadable(why_no_filter(thread, process, index, error)) from error
-    if count > BPF_MAXINSNS:
-        raise Unreadable(f"filter {index} of {called(thread, process)} has {count} instructions, more than a filter "
-                         f"may have")
+        raise (Ended(thread) if error.errno == errno.ESRCH else Unreadable(why_not_shown(this, error))) from error
     if again != count:
-        raise Unreadable(f"filter {index} of {called(thread, process)} changed its length from {count} to {again} "
-                         f"while it was read")
+        raise Unreadable(f"{this} changed its length from {count} to {again} while it was read")
     return kernel.keep(room.raw[:count * INSTRUCTION.size])
 
 
 def stack_of(kernel: Kernel, thread: int, process: int) -> tuple[tuple[bytes, ...], bool]:
     """The filters of a stopped thread, oldest first, and whether it is in the strict mode in place of any."""
     filters: list[bytes] = []
-    while True:
-        data = filter_at(kernel, thread, process, len(filters))
-        if data is None:
-            break
+    while (data := filter_at(kernel, thread, process, len(filters))) is not None:
         filters.append(data)
     status = kernel.status_of(thread)
     if not status:
