@@ -1,6 +1,7 @@
 """The kernel's facts about processes, by ptrace(2) and by the files of /proc (proc(5))."""
 from __future__ import annotations
 
+import contextlib
 import errno
 import fcntl
 import os
@@ -181,8 +182,7 @@ class Kernel:
 
     def name_of(self, process: int) -> bytes:
         """The name of a process: bytes of its own choice."""
-        name = contents(f"/proc/{process}/comm")
-        return name[:-1] if name.endswith(b"\n") else name
+        return contents(f"/proc/{process}/comm").removesuffix(b"\n")
 
     def groups_of(self, process: int) -> dict[str, bytes]:
         """The control groups of a process, by the controllers of their hierarchies."""
@@ -230,13 +230,11 @@ class Kernel:
         """The users who made the user namespace of a process and those around it that this tool may see, the innermost
         first; the initial namespace isn't among them."""
         users: list[int] = []
-        for file in _namespace_files(process, "user"):
-            try:
+        with contextlib.suppress(OSError):
+            for file in _namespace_files(process, "user"):
                 if os.fstat(file).st_ino == PROC_USER_INIT_INO:
                     break
                 users.append(int.from_bytes(fcntl.ioctl(file, NS_GET_OWNER_UID, bytes(4)), "little"))
-            except OSError:
-                break
         return users
 
     def owner_of(self, process: int, user: int) -> int:
@@ -246,5 +244,4 @@ class Kernel:
 
     def namespaces_of(self, process: int) -> list[tuple[int, int]]:
         """The PID namespace of a process and those around it that this tool may see, the innermost first."""
-        statuses = map(os.fstat, _namespace_files(process, "pid"))
-        return [(status.st_dev, status.st_ino) for status in statuses]
+        return [(status.st_dev, status.st_ino) for status in map(os.fstat, _namespace_files(process, "pid"))]

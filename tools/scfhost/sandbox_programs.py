@@ -46,11 +46,9 @@ def _names_in(folder: str) -> list[str]:
 
 def lxc_policy(path: str) -> str | None:
     """The path of the policy that a configuration names last, if it names one. Raises UnreadableFile."""
-    policy = None
-    for name, value in _lxc_settings(path, itertools.count(1)):
-        if name in ("lxc.seccomp.profile", "lxc.seccomp"):
-            policy = value or None
-    return policy
+    policies = [value for name, value in _lxc_settings(path, itertools.count(1))
+                if name in ("lxc.seccomp.profile", "lxc.seccomp")]
+    return policies[-1] or None if policies else None
 
 
 def _lxc_settings(path: str, files: Iterator[int]) -> Iterator[tuple[str, str]]:

@@ -129,39 +129,32 @@ class ListReader:
 
     def __init__(self, groups: Callable[[], dict[str, list[str]]], tell: Callable[[str], None],
                  is_call: Callable[[str], bool] = lambda name: True, is_lenient: bool = False) -> None:
-        self.ask = groups
+        self.groups = functools.cache(groups)
         self.tell = tell
         self.is_call = is_call
         # whether a word that systemd leaves out is left out, and not refused
         self.is_lenient = is_lenient
-
         # the names that are left out, in their order
         self.unknown_names: dict[str, None] = {}
 
-    @functools.cached_property
-    def groups(self) -> dict[str, list[str]]:
-        return self.ask()
-
     def calls_of(self, name: str, depth: int = 0) -> Iterator[str]:
         """The calls of a name, which may be a group's."""
-        if not name.startswith("@"):
-            if self.is_call(name):
-                yield name
-            else:
-                self.unknown_names[name] = None
-            return
-        if name not in self.groups:
+        if not name.startswith("@") and self.is_call(name):
+            yield name
+        elif not name.startswith("@"):
+            self.unknown_names[name] = None
+        elif name not in self.groups():
             self.tell(f"{name} left out: systemd knows no such group")
         elif depth > DEEPEST_GROUP:
             raise SettingError(f"the group {name} is nested too deep")
         else:
-            for member in self.groups[name]:
+            for member in self.groups()[name]:
                 yield from self.calls_of(member, depth + 1)
 
     def known_calls(self) -> list[str]:
         """The calls of x86-64 that systemd knows: those of @known, but not of the groups in it."""
         number_of = libseccomp.Library().number_of
-        return [name for name in self.groups.get("@known", ())
+        return [name for name in self.groups().get("@known", ())
                 if (number := number_of(name)) is not None and number >= 0]
 
     def add(self, call_list: CallList, word: str, is_inverted: bool) -> None:
@@ -183,7 +176,7 @@ class ListReader:
             else:
                 call_list.calls.pop(call, None)
 
-    def assigned(self, values: Sequence[str], implied: str | None = IMPLIED) -> CallList | None:
+    def assigned(self, values: Sequence[str], implied: Sequence[str] = (IMPLIED,)) -> CallList | None:
         """The list of several assignments in their order: the first one says of which kind it is."""
         call_list = None
         for value in values:
@@ -194,8 +187,7 @@ class ListReader:
             words = value[is_inverted:].split()
             if call_list is None:
                 call_list = CallList(is_inverted)
-                if implied is not None and not is_inverted:
-                    self.add(call_list, implied, False)
+                words[:0] = () if is_inverted else implied
             for word in words:
                 self.add(call_list, word, is_inverted)
         return call_list if call_list is None or call_list.calls or not call_list.is_inverted else None
@@ -208,17 +200,16 @@ class ListReader:
 
     def shown(self, text: str) -> CallList | None:
         """The list that `systemctl show` prints, in which groups are resolved; `~` alone is one that isn't set."""
-        return self.assigned([text], None) if text != "" else CallList(False)
+        return self.assigned([text], ()) if text != "" else CallList(False)
 
 
 def printed_by(words: Sequence[str]) -> str:
     import subprocess  # pylint: disable=import-outside-toplevel
 
     try:
-        done = subprocess.run(words, stdin=subprocess.DEVNULL, stdout=subprocess.PIPE, stderr=subprocess.PIPE,
-                              check=False, env={**os.environ, "LC_ALL": "C", "SYSTEMD_COLORS": "0",
-                                                # in a container of the machine, too
-                                                "SYSTEMD_IGNORE_CHROOT": "1"})
+        # (the last one for a container of the machine)
+        done = subprocess.run(words, stdin=subprocess.DEVNULL, capture_output=True, check=False, env={
+            **os.environ, "LC_ALL": "C", "SYSTEMD_COLORS": "0", "SYSTEMD_IGNORE_CHROOT": "1"})
     except OSError as error:
         raise program.ToolError(f"{words[0]} can't be run: {error.strerror}") from error
     if done.returncode:
@@ -289,7 +280,7 @@ def denied_by(shown: dict[str, str], allowed: CallList, reader: ListReader) -> d
     values = [value for text in files_of(shown) for value in assignments_of(text, section, "SystemCallFilter")]
     if not any(value.startswith("~") and ":" in value for value in values):
         return {}
-    lenient = ListReader(reader.ask, reader.tell, libseccomp.Library().knows, is_lenient=True)
+    lenient = ListReader(reader.groups, reader.tell, libseccomp.Library().knows, is_lenient=True)
     listed = lenient.assigned(values)
     lenient.tell_unknown()
     calls = listed.calls if listed is not None else {}
@@ -396,7 +387,7 @@ def _settings_of(name: str | None, options: Any, say: Callable[[str], None]) -> 
             say(f"names that libseccomp doesn't know can't be left out, as systemd may do: {why}")
         settings = UnitSettings(reader.assigned(options.set), refusal_of(options.errno or ""),
                                 architectures_of(options.unit_architectures or ""),
-                                reader.assigned(options.log or (), None))
+                                reader.assigned(options.log or (), ()))
     reader.tell_unknown()
     return settings
 
