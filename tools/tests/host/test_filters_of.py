@@ -162,18 +162,14 @@ class FiltersOf(Confined):
         return bytes_of(self.folder, name)
 
     @here
-    def test_two_filters_oldest_first(self):
-        child = self.child([OLDEST, NEWEST], [OLDEST, NEWEST])
-        self.assertEqual(self.run_tool("filters-of", str(child.pid), "a/b"), (0, "a/b/0.bpf\na/b/1.bpf\n", ""))
-        self.assertEqual([self.read("a/b/0.bpf"), self.read("a/b/1.bpf")], [OLDEST, NEWEST])
-        self.runs_on(child)
-
-    @here
-    def test_eleven_filters_are_named_in_order(self):
-        given = [ret(ALLOW) * (at + 1) for at in range(11)]
-        names = self.filters_of(self.child(given))[1].split()
-        self.assertEqual(names, sorted(names))
-        self.assertEqual([self.read(name) for name in names], given)
+    def test_the_oldest_first(self):
+        """More than ten filters are named in their order, too."""
+        for given, first in (([OLDEST, NEWEST], "0.bpf"), ([ret(ALLOW) * (at + 1) for at in range(11)], "00.bpf")):
+            child, folder = self.child(given, given), f"a/{len(given)}"
+            names = self.output_of(0, "filters-of", str(child.pid), folder).split("\n")[:-1]
+            self.assertEqual((names, names[0]), (sorted(names), f"{folder}/{first}"))
+            self.assertEqual([self.read(name) for name in names], given)
+            self.runs_on(child)
 
     @here
     def test_threads_that_differ(self):
@@ -183,9 +179,11 @@ class FiltersOf(Confined):
         # (the kernel may begin again with small numbers between two of them)
         stacks = "; ".join(f"thread {thread}: {'no filter' if thread == free else '2 filters, of 1, 4 instructions'}"
                            for thread in sorted(child.threads))
-        self.assertEqual(self.filters_of(child), (
-            2, "", f"filters-of: the threads of process {main} don't have the same filters; {stacks}; --thread takes "
-                   f"those of one thread\n"))
+        for number in child.threads:
+            # (a thread's number stands for its process)
+            self.assertEqual(self.run_tool("filters-of", str(number), "out"), (
+                2, "", f"filters-of: the threads of process {main} don't have the same filters; {stacks}; --thread "
+                       f"takes those of one thread\n"))
         self.assertFalse(os.path.exists(os.path.join(self.folder, "out")))
         self.assertEqual(self.filters_of(child, "--thread", str(second)), (0, "out/0.bpf\nout/1.bpf\n", ""))
         self.assertEqual(self.read("out/1.bpf"), OTHER)
@@ -194,10 +192,6 @@ class FiltersOf(Confined):
         self.assertEqual(self.run_tool("filters-of", f"--thread={os.getpid()}", str(main), "none"),
                          (2, "", f"filters-of: process {main} has no thread {os.getpid()}\n"))
         self.runs_on(child)
-
-    @here
-    def test_a_thread_stands_for_its_process(self):
-        self.assertEqual(self.run_tool("filters-of", str(self.child([OLDEST], [NEWEST]).threads[1]), "out")[0], 2)
 
     @here
     def test_a_process_without_filters(self):
@@ -286,29 +280,21 @@ class VerifyProcess(Confined):
 
     @here
     def test_threads_that_differ(self):
-        """A thread of as many filters of as many instructions, which lets more through, is told, and first."""
+        """One without a filter comes first, and then one of as many filters of as many instructions, which lets more
+        through."""
         strict, lax = refusing(MOUNT), refusing(UMOUNT2)
-        child = self.child([strict], [lax], [strict])
-        main, lax_thread, alike = child.threads
+        child = self.child([strict], [lax], [strict], [])
+        main, lax_thread, alike, free = child.threads
         status, out = self.verify(child, refuses("mount"))
-        first, second = out.split("\n\n")
-        self.assertEqual((status, first.split("\n")[0], second.split("\n")[0]), (1, "differs", "same"))
-        self.assertEqual(comments(first)[-1],
+        unconfined, differs, same = out.split("\n\n")
+        self.assertEqual((status, differs.split("\n")[0], same.split("\n")[0]), (1, "differs", "same"))
+        self.assertEqual(unconfined, f"# thread {free} of {self.called(child)} has no filter: it isn't confined, and "
+                                     f"every syscall is allowed")
+        self.assertEqual(comments(differs)[-1],
                          f"thread {lax_thread} of {self.called(child)} has 1 filter, of {len(lax) // 8} instructions")
-        self.assertEqual(comments(second)[-1],
+        self.assertEqual(comments(same)[-1],
                          f"threads {min(main, alike)}, {max(main, alike)} of {self.called(child)} have 1 filter, of "
                          f"{len(strict) // 8} instructions")
-        self.runs_on(child)
-
-    @here
-    def test_a_thread_without_a_filter(self):
-        child = self.child([refusing(MOUNT)], [])
-        status, out = self.verify(child, refuses("mount"))
-        first, second = out.split("\n\n")
-        self.assertEqual(status, 1)
-        self.assertEqual(first, f"# thread {child.threads[1]} of {self.called(child)} has no filter: it isn't "
-                                f"confined, and every syscall is allowed")
-        self.assertTrue(second.startswith("same\n"), out)
         self.runs_on(child)
 
     @here
@@ -381,17 +367,17 @@ class VerifyProcess(Confined):
         status, out = self.verify(child, refuses("mount", "umont2"), "--json")
         value = json.loads(out)
         self.assertEqual((status, value["status"], value["scope"], value["container"]), (1, 1, "native", None))
-        self.assertIn(value["verdict"], ("differs", "unconfined"))
-        by_thread = {stack["processes"][0]["threads"][0]: stack for stack in value["stacks"]}
-        main, differing, free = child.threads
-        self.assertEqual({thread: stack["verdict"] for thread, stack in by_thread.items()},
-                         {main: "same", differing: "differs", free: "unconfined"})
-        self.assertEqual(by_thread[differing]["call"]["names"], ["umount2"])
-        self.assertEqual(by_thread[differing]["filter"], {"action": "ERRNO", "data": 1, "errno": "EPERM"})
-        self.assertEqual(by_thread[differing]["profile"], {"action": "ALLOW", "data": 0})
-        self.assertEqual((by_thread[main]["skipped"], by_thread[main]["filters"]), (["umont2"], [9]))
-        self.assertEqual([kind["not_denied"] for kind in by_thread[main]["foreign"]], [[], []])
-        self.assertEqual(by_thread[main]["processes"][0]["process"], child.pid)
+        unconfined, differs, same = value["stacks"]
+        self.assertEqual([value["verdict"], *(stack["verdict"] for stack in value["stacks"])],
+                         ["unconfined", "unconfined", "differs", "same"])
+        self.assertEqual([stack["processes"][0]["threads"] for stack in (same, differs, unconfined)],
+                         [[thread] for thread in child.threads])
+        self.assertEqual(differs["call"]["names"], ["umount2"])
+        self.assertEqual(differs["filter"], {"action": "ERRNO", "data": 1, "errno": "EPERM"})
+        self.assertEqual(differs["profile"], {"action": "ALLOW", "data": 0})
+        self.assertEqual((same["skipped"], same["filters"]), (["umont2"], [9]))
+        self.assertEqual([kind["not_denied"] for kind in same["foreign"]], [[], []])
+        self.assertEqual(same["processes"][0]["process"], child.pid)
 
     @here
     def test_a_name_of_a_stranger(self):
@@ -487,17 +473,20 @@ class Containers(Confined):
 
     @here
     @ROOT
-    def test_systemd_in_a_container(self):
-        """It is in a group of its own, beside those of its services: these are looked at, too."""
+    def test_control_groups(self):
+        """A process's own and those below; and of a systemd in a container, which is in one beside those of its
+        services, these, too."""
         children = [self.child([refusing(MOUNT)]), self.child([refusing(UMOUNT2)])]
-        names = ("init.scope", "system.slice/x.service")
-        group = self.grouped(*((child, name, child.pid) for child, name in zip(children, names)))
+        for names, count in ((("init.scope", "system.slice/x.service"), 2), (("", "inner"), 1)):
+            group = self.grouped(*((child, name, child.pid) for child, name in zip(children, names)))
+            for child in children[:count]:
+                out = self.out_of(1, self.verify(child.pid, refuses("mount"), "--all"))
+                self.assertEqual([block.split("\n")[0] for block in out.split("\n\n")], ["differs", "same"])
+                self.assertEqual(comments(out)[-1], f"the container is the control group {group}; its processes that "
+                                                    f"were checked: 2")
+        self.begins(0, "same", self.verify(children[1].pid, refuses("umount2"), "--all"))
         for child in children:
-            status, out, err = self.verify(child.pid, refuses("mount"), "--all")
-            self.assertEqual((status, err, [block.split("\n")[0] for block in out.split("\n\n")]),
-                             (1, "", ["differs", "same"]))
-            self.assertEqual(comments(out)[-1], f"the container is the control group {group}; its processes that "
-                                                f"were checked: 2")
+            self.runs_on(child)
 
     @here
     @ROOT
@@ -521,38 +510,21 @@ class Containers(Confined):
         self.grouped((child, "inner", second))
         self.assertEqual(self.verify(first, refuses("mount"), "--all")[0], 0)
 
-    @here
-    @ROOT
-    def test_a_control_group(self):
-        children = [self.child([refusing(MOUNT)]), self.child([refusing(UMOUNT2)])]
-        self.grouped((children[0], "", children[0].pid), (children[1], "inner", children[1].pid))
-        status, out, err = self.verify(children[0].pid, refuses("mount"), "--all")
-        self.assertEqual((status, err, [block.split("\n")[0] for block in out.split("\n\n")]),
-                         (1, "", ["differs", "same"]))
-        self.assertIn(f"/scf-test-{os.getpid()}; its processes that were checked: 2", comments(out)[-1])
-        self.begins(0, "same", self.verify(children[1].pid, refuses("umount2"), "--all"))
-        for child in children:
-            self.runs_on(child)
-
     def without(self, children, group):
         for child in children:
             child.kill()
             child.wait()
         comes(lambda: not remove_groups(group))
 
-    def container(self, profile, *runtimes):
-        """A container that one of these runtimes starts with this profile, and the number of its process."""
-        reasons = []
-        for runtime in runtimes:
-            box = Box(runtime)
-            self.addCleanup(box.close)
-            config = spec_of(box.where, ["busybox", "sleep", "1000"])
-            config["linux"]["seccomp"] = profile
-            status, message, pid = box.make(config)
-            if not status:
-                return box, pid
-            reasons.append(f"{runtime}: {message.strip()}")
-        return self.skipTest(f"no container can be started here: {'; '.join(reasons)}")
+    def container(self, profile):
+        """A container that runc starts with this profile, and the number of its process."""
+        box = Box("runc")
+        self.addCleanup(box.close)
+        config = spec_of(box.where, ["busybox", "sleep", "1000"])
+        config["linux"]["seccomp"] = profile
+        status, message, pid = box.make(config)
+        self.skip_if(status, f"no container can be started here: {message.strip()}")
+        return box, pid
 
     @here
     @ROOT
@@ -565,7 +537,7 @@ class Containers(Confined):
         allowed = [name for name in allowed if name not in ("mount", "ptrace")]
         profile = {"defaultAction": "SCMP_ACT_ERRNO", "defaultErrnoRet": 1, "architectures": ["SCMP_ARCH_X86_64"],
                    "syscalls": [{"names": allowed, "action": "SCMP_ACT_ALLOW"}]}
-        _, pid = self.container(profile, "runc")
+        _, pid = self.container(profile)
         out = self.out_of(1, self.verify(pid, json.dumps(profile)))
         self.assertEqual(out.split("\n")[:4],
                          ["differs", "call nr 440 arch 0xc000003e ip 0x0 args 0x0 0x0 0x0 0x0 0x0 0x0",
@@ -588,8 +560,8 @@ class Containers(Confined):
     @here
     @ROOT
     def test_a_container_whose_processes_are_in_groups_of_their_own(self):
-        """The container's own group is the one that its runtime mounted."""
-        box, pid = self.container(json.loads(refuses("mount", "ptrace", architectures=["SCMP_ARCH_X86_64"])), "runc")
+        """The container's own group is the one that its runtime mounted; its own config.json is a profile, too."""
+        box, pid = self.container(json.loads(refuses("mount", "ptrace", architectures=["SCMP_ARCH_X86_64"])))
         self.assertEqual(box.call("exec", "--detach", box.name, "busybox", "sleep", "1000")[0], 0)
         kernel = processes.Kernel()
         groups = kernel.groups_of(pid)
@@ -606,11 +578,3 @@ class Containers(Confined):
         status, out, err = self.run_tool("verify-process", "--all", str(pid), box.config)
         self.assertEqual((status, err, comments(out)[-1]),
                          (0, "", f"the container is the control group {group}; its processes that were checked: 2"))
-
-    @here
-    @ROOT
-    def test_a_container_of_a_list_of_what_is_refused(self):
-        """Its own config.json is a profile, too."""
-        profile = json.loads(refuses("mount", "ptrace", architectures=["SCMP_ARCH_X86_64"]))
-        box, pid = self.container(profile, "crun", "runc")
-        self.begins(0, "same", self.run_tool("verify-process", str(pid), box.config))

@@ -1,5 +1,4 @@
 """scfhost.processes: what is asked of a kernel that is made here, and of this one, on processes of the test's own."""
-import ctypes
 import errno
 import itertools
 import os
@@ -64,13 +63,15 @@ class Asked(Case):
         self.assertEqual(kernel.held, set())
 
     def test_filters_oldest_first(self):
-        kernel = FakeKernel([OLDEST, NEWEST, b""], states=[None, None, STOPPED])
-        inspection = self.look(kernel)
-        self.assertEqual([(stack.filters, stack.is_strict, stack.threads) for stack in inspection.stacks],
-                         [((OLDEST, NEWEST, b""), False, {7: [7]})])
-        self.assertEqual((inspection.names, inspection.passed_over), ({7: b"fake"}, {}))
-        self.assertEqual([request for request, _, _ in kernel.asked[:2]], [SEIZE, INTERRUPT])
-        self.assertEqual(kernel.let_go(), [0])
+        """A signal that came meanwhile is handed on."""
+        for states, given in (([None, None, STOPPED], 0), ([signal.SIGUSR1 << 8 | 0x7F], signal.SIGUSR1)):
+            kernel = FakeKernel([OLDEST, NEWEST, b""], states=states)
+            inspection = self.look(kernel)
+            self.assertEqual([(stack.filters, stack.is_strict, stack.threads) for stack in inspection.stacks],
+                             [((OLDEST, NEWEST, b""), False, {7: [7]})])
+            self.assertEqual((inspection.names, inspection.passed_over), ({7: b"fake"}, {}))
+            self.assertEqual([request for request, _, _ in kernel.asked[:2]], [SEIZE, INTERRUPT])
+            self.assertEqual(kernel.let_go(), [given])
 
     def test_threads_that_come_or_go_meanwhile(self):
         for listings, threads in (([(7,), (7, 8), (7, 8, 9), (7, 8, 9)], [7, 8, 9]), ([(7, 8), (7,)], [7])):
@@ -80,15 +81,7 @@ class Asked(Case):
 
     def test_a_thread_that_ends_before_it_is_read(self):
         """The others are read, and one that is begun meanwhile, too."""
-        kernel = FakeKernel([OLDEST], listings=[(7, 8), (7, 8), (7, 9)])
-        get = kernel.filter
-
-        def ending(thread, place, data):
-            if thread == 8:
-                raise OSError(errno.ESRCH, "none")
-            return get(thread, place, data)
-
-        kernel.filter = ending
+        kernel = FakeKernel([OLDEST], {(GET, 8): errno.ESRCH}, listings=[(7, 8), (7, 8), (7, 9)])
         self.assertEqual(self.look(kernel).stacks[0].threads, {7: [7, 9]})
         self.assertEqual(kernel.held, set())
 
@@ -98,36 +91,19 @@ class Asked(Case):
         self.refused(kernel, "threads came and went for 0.045 seconds", patience=0.05)
 
     def test_equal_filters_are_one_stack_and_others_are_not(self):
+        """None is stopped before all are traced: PTRACE_SEIZE may take long, and where it does nothing is held."""
         kernel = FakeKernel(listings=[(7, 8, 9, 10)])
         by_thread = {7: [NEWEST], 8: [OTHER], 9: [NEWEST], 10: []}
-        get = FakeKernel.filter
-
-        def of_thread(thread, place, data):
-            kernel.filters = by_thread[thread]
-            return get(kernel, thread, place, data)
-
-        kernel.filter = of_thread
+        kernel.filter = lambda thread, *remaining: FakeKernel(by_thread[thread]).filter(thread, *remaining)
         self.assertEqual([(stack.filters, stack.threads) for stack in self.look(kernel).stacks],
                          [((NEWEST,), {7: [7, 9]}), ((OTHER,), {7: [8]}), ((), {7: [10]})])
-
-    def test_a_signal_that_came_meanwhile_is_handed_on(self):
-        kernel = FakeKernel([OLDEST], states=[signal.SIGUSR1 << 8 | 0x7F])
-        self.look(kernel)
-        self.assertEqual(kernel.let_go(), [signal.SIGUSR1])
+        asked = [request for request, _, _ in kernel.asked if request in (SEIZE, INTERRUPT)]
+        self.assertEqual(asked, [SEIZE] * 4 + [INTERRUPT] * 4)
 
     def test_a_filter_that_changes_its_length(self):
         for first, second in ((NEWEST, OLDEST), (OLDEST, NEWEST)):
-            kernel = FakeKernel()
-
-            def changing(_thread, place, data, first=first, second=second):
-                if place:
-                    raise OSError(errno.ENOENT, "none")
-                held = first if data is None else second
-                if data is not None:
-                    ctypes.memmove(data, held, len(held))
-                return len(held) // 8
-
-            kernel.filter = changing
+            kernel, kept = FakeKernel(), [FakeKernel([second]), FakeKernel([first])]
+            kernel.filter = lambda *words, kept=kept: kept.pop().filter(*words)
             self.refused(kernel, f"changed its length from {len(first) // 8} to {len(second) // 8} while it was read")
 
     def test_lengths_and_counts(self):
@@ -149,7 +125,7 @@ class Asked(Case):
             self.refused(kernel, says)
             self.assertEqual(kernel.let_go(), [])
         kernel = FakeKernel([OLDEST], {SEIZE: errno.EPERM})
-        kernel.flags = hold.PF_KTHREAD
+        kernel.flags_of = lambda _: hold.PF_KTHREAD
         self.refused(kernel, "process 7 is a kernel thread")
         kernel = FakeKernel([OLDEST], {SEIZE: errno.EPERM})
         kernel.own_status["CapEff"] = f"{1 << hold.CAP_SYS_ADMIN:x}"
@@ -159,34 +135,19 @@ class Asked(Case):
     def test_a_thread_that_executes_a_program(self):
         """The kernel refuses to trace one that ends or executes a program, or that another tool looks at, for a moment:
         it is listed again. Under its new number the tool may trace it already."""
-        for status, count in (({}, 3), ({"TracerPid": "12"}, 3), ({"TracerPid": str(os.getpid())}, 1)):
-            kernel = FakeKernel([OLDEST], {SEIZE: errno.EPERM}, status=status)
-            ptrace_of, asked = kernel.ptrace, []
-
-            def seizing(request, *remaining, kernel=kernel, ptrace_of=ptrace_of, asked=asked, count=count):
-                asked.append(request)
-                if request == SEIZE and asked.count(SEIZE) == count:
-                    kernel.fails = {}
-                return ptrace_of(request, *remaining)
-
-            kernel.ptrace = seizing
+        for status, errors, count in (({}, iter([errno.EPERM] * 2), 3), ({"TracerPid": "12"}, iter([errno.EPERM]), 2),
+                                      ({"TracerPid": str(os.getpid())}, errno.EPERM, 1)):
+            kernel = FakeKernel([OLDEST], {SEIZE: errors}, status=status)
             self.assertEqual([stack.threads for stack in self.look(kernel).stacks], [{7: [7]}])
-            self.assertEqual(asked, [SEIZE] * count + [INTERRUPT, GET, GET, GET, DETACH])
+            self.assertEqual([request for request, _, _ in kernel.asked],
+                             [SEIZE] * count + [INTERRUPT, GET, GET, GET, DETACH])
         self.refused(FakeKernel([OLDEST], {SEIZE: errno.EPERM}), "run this as root")
 
     def test_threads_that_another_tool_looks_at(self):
         """None is traced before the first that has another tracer, so that of two tools one has all."""
-        kernel = FakeKernel([OLDEST], status={"TracerPid": "12"}, listings=[(7, 8)])
-        ptrace_of, seized = kernel.ptrace, []
-
-        def seizing(request, thread, *remaining):
-            kernel.fails = {SEIZE: errno.EPERM} if len(seized) < 2 else {}
-            seized.extend([thread] if request == SEIZE else [])
-            return ptrace_of(request, thread, *remaining)
-
-        kernel.ptrace = seizing
+        kernel = FakeKernel([OLDEST], {SEIZE: iter([errno.EPERM] * 2)}, status={"TracerPid": "12"}, listings=[(7, 8)])
         self.assertEqual([stack.threads for stack in self.look(kernel).stacks], [{7: [7, 8]}])
-        self.assertEqual(seized, [7, 7, 7, 8])
+        self.assertEqual([thread for request, thread, _ in kernel.asked if request == SEIZE], [7, 7, 7, 8])
 
     def test_threads_that_keep_another_tracer(self):
         """Some are waited for, and the others no more."""
@@ -215,26 +176,11 @@ class Asked(Case):
                 self.refused(kernel, "can only be inspected on x86-64")
             self.assertEqual(kernel.asked, [])
 
-    def test_none_is_stopped_before_all_are_traced(self):
-        """PTRACE_SEIZE may take long, and where it does nothing is held."""
-        kernel = FakeKernel([OLDEST], listings=[(7, 8, 9)])
-        self.look(kernel)
-        asked = [request for request, _, _ in kernel.asked if request in (SEIZE, INTERRUPT)]
-        self.assertEqual(asked, [SEIZE] * 3 + [INTERRUPT] * 3)
-
     def test_a_main_thread_that_has_ended(self):
         """Its process's other threads are looked at."""
-        kernel = FakeKernel([OLDEST], listings=[(7, 8)])
-        ptrace, status_of_thread = kernel.ptrace, kernel.status_of
-
-        def refusing(request, thread, place, data):
-            if (request, thread) == (SEIZE, 7):
-                raise OSError(errno.EPERM, "no")
-            return ptrace(request, thread, place, data)
-
-        kernel.ptrace = refusing
-        kernel.status_of = lambda number: {**status_of_thread(number),
-                                           **({"State": "Z (zombie)"} if number == 7 else {})}
+        kernel = FakeKernel([OLDEST], {(SEIZE, 7): errno.EPERM}, listings=[(7, 8)])
+        status_of_thread = kernel.status_of
+        kernel.status_of = lambda number: {**status_of_thread(number), "State": "Z (zombie)" if number == 7 else "S"}
         inspection = self.look(kernel)
         self.assertEqual(([stack.threads for stack in inspection.stacks], inspection.passed_over), ([{7: [8]}], {}))
 

@@ -210,7 +210,8 @@ class Supervisor:
 
 
 class FakeKernel:
-    """A kernel with one process, whose threads keep these filters, oldest first, and that fails where it is told.
+    """A kernel with one process, whose threads keep these filters, oldest first, and that fails where it is told: by a
+    request, or by that and a thread, with an errno or some in turn.
 
     Threads are listed one list after another, the last one again and again; their states are told so, too.
     """
@@ -223,23 +224,26 @@ class FakeKernel:
         self.listings = list(listings)
         self.status = {"Seccomp": "2", "State": "S (sleeping)", "Tgid": "7", **(status or {})}
         self.own_status = {"Seccomp": "0", "CapEff": "000001ffffffffff"}
-        self.flags = 0
         self.asked = []
         self.held = set()
+        self.is_proc_ours = self.is_root_the_first = lambda: True
+        self.waits_for_supervisor, self.flags_of = lambda _: False, lambda _: 0
+        self.processes, self.name_of = lambda: [7], lambda _: b"fake"
+        self.namespaces_of, self.mounted_groups = lambda _: [(1, 1)], lambda _: [b"/"]
 
     keep = bytes
 
     def ptrace(self, request, thread, place, data):
         self.asked.append((request, thread, data if request == ptrace.PTRACE_DETACH else place))
-        if request in self.fails:
-            raise OSError(self.fails[request], os.strerror(self.fails[request]))
+        errors = self.fails.get((request, thread), self.fails.get(request))
+        number = next(errors, None) if hasattr(errors, "__next__") else errors
+        if number is not None:
+            raise OSError(number, os.strerror(number))
         if request == ptrace.PTRACE_SEIZE:
             self.held.add(thread)
         elif request == ptrace.PTRACE_DETACH:
             self.held.discard(thread)
-        if request != ptrace.PTRACE_SECCOMP_GET_FILTER:
-            return 0
-        return self.filter(thread, place, data)
+        return self.filter(thread, place, data) if request == ptrace.PTRACE_SECCOMP_GET_FILTER else 0
 
     def filter(self, _, place, data):
         if place >= len(self.filters):
@@ -258,35 +262,11 @@ class FakeKernel:
         """Those of a thread that is in no system call."""
         return {name: 2**64 - 1 if name == "orig_rax" else 0 for name in calls.REGISTERS}
 
-    def waits_for_supervisor(self, _):
-        return False
-
-    def is_proc_ours(self):
-        return True
-
-    def is_root_the_first(self):
-        return True
-
-    def processes(self):
-        return [7]
-
-    def namespaces_of(self, _):
-        return [(1, 1)]
-
-    def mounted_groups(self, _):
-        return [b"/"]
-
     def threads_of(self, _):
         return list(self.listings.pop(0) if len(self.listings) > 1 else self.listings[0])
 
     def status_of(self, thread):
         return self.own_status if thread == os.getpid() else self.status
-
-    def flags_of(self, _):
-        return self.flags
-
-    def name_of(self, _):
-        return b"fake"
 
     def let_go(self):
         """The signals that threads were let go with."""
