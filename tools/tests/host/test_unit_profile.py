@@ -89,7 +89,8 @@ class UnitProfile(Case):
                   "FragmentPath": self.unit_file("box.service", ""), "SystemCallFilter": "~",
                   "SystemCallArchitectures": "", "SystemCallErrorNumber": KILLED, "SystemCallLog": "~", **members}
         text = "".join(f"{name}={value}\n" for name, value in actual.items() if value is not None)
-        self.stand_in("systemctl", f"cat <<'END'\n{text}END")
+        # (in a container of the machine it would ignore its command otherwise)
+        self.stand_in("systemctl", f"[ $SYSTEMD_IGNORE_CHROOT = 1 ] || exit 0\ncat <<'END'\n{text}END")
 
     def unit_file(self, name, text):
         return self.file(f"units/{name}", text)
@@ -129,13 +130,6 @@ class UnitProfile(Case):
             "DropInPaths", "FragmentPath", "Id", "LoadState", "MainPID", "NeedDaemonReload", "Personality",
             "SystemCallArchitectures", "SystemCallErrorNumber", "SystemCallFilter", "SystemCallLog", *OTHERS)))
         self.assertFalse(os.path.exists(os.path.join(self.folder, "systemd-analyze.words")))
-
-    def test_in_a_container_of_the_machine(self):
-        """There systemctl would ignore its command: it is told not to."""
-        self.shows(SystemCallFilter="read")
-        script = text_of(f"{self.folder}/bin/systemctl")
-        self.stand_in("systemctl", f'[ "$SYSTEMD_IGNORE_CHROOT" = 1 ] || exit 0\n{script}')
-        self.assertEqual(self.printed("box.service")[1], {(ALLOW, None): {"read"}})
 
     def test_lists(self):
         """What a unit allows, what it denies, and none."""
@@ -204,8 +198,9 @@ class UnitProfile(Case):
                              ("EHWPOISON", 133), ("EWOULDBLOCK", 11), ("ENOTSUP", 95)):
             self.assertEqual(self.printed("--set", f"~read:{text}")[1], {(ERRNO, number): {"read"}}, text)
         self.assertEqual(self.printed("--set", "~read", "--errno", "010")[1], {(ERRNO, 8): {"read"}})
-        for text in ("08", "0x", "1_0", "0b2", "-1", "4096", "9" * 5000, "EHWPOISON1", "\u0663"):
-            self.refused(2, "isn't an errno", "--set", f"~read:{text}")
+        for text in ("08", "0x", "1_0", "0b2", "-1", "4096", "EHWPOISON1", "\u0663", "", "ENOTHING", "errorcode"):
+            self.refused(2, f"'{text}' isn't an errno", "--set", f"~read:{text}")
+        self.refused(2, "isn't an errno", "--set", f"~read:{'9' * 5000}")
 
     @unittest.skipUnless(ctypes.util.find_library("seccomp"), "there is no libseccomp here")
     def test_names_that_libseccomp_does_not_know(self):
@@ -428,11 +423,7 @@ class UnitProfile(Case):
             self.assertEqual(err, f"unit-profile: {says}\n")
 
     def test_what_is_refused(self):
-        for words, says in ((("--set", "~read:ENOTHING"), "'ENOTHING' isn't an errno"),
-                            (("--set", "~read:4096"), "'4096' isn't an errno"),
-                            (("--set", "~read:"), "'' isn't an errno"),
-                            (("--set", "~read:strerror"), "'strerror' isn't an errno"),
-                            (("--set", "read", "--errno=-1"), "'-1' isn't an errno"),
+        for words, says in ((("--set", "read", "--errno=-1"), "'-1' isn't an errno"),
                             (("--set", "read", "--architectures", "x86 \x1b[2J"), "'\\x1b[2J' isn't an architecture"),
                             (("--set", "@round"), "the group @round is nested too deep")):
             self.refused(2, says, *words)
@@ -485,29 +476,6 @@ class UnitProfile(Case):
             self.assertEqual(self.run_words([*CORE, "ask", "--nr", str(number)], bundle)[1].split("\n")[0], line, name)
 
 
-ALLOWING = """[Unit]
-DefaultDependencies=no
-[Service]
-ExecStart=/bin/sleep 300
-SystemCallFilter=@system-service
-SystemCallFilter=~clone3:EINVAL chmod:010 fchmod:EHWPOISON mseal:EPERM chown:08 lchown:+7 %n:ENOENT
-SystemCallErrorNumber=EACCES
-"""
-DROP_IN = """[Service]
-SystemCallFilter=~mkdir:0x10 \\
-# a comment
- rmdir:0b11
-"""
-DENYING = """[Unit]
-DefaultDependencies=no
-[Service]
-ExecStart=/bin/sleep 300
-SystemCallFilter=~mseal listmount mount:0 swapoff:E2BIG reboot:0o17 syncfs:kill swapon
-SystemCallErrorNumber=010
-SystemCallArchitectures=native
-"""
-
-
 UNIT = """[Unit]
 DefaultDependencies=no
 [Service]
@@ -515,6 +483,17 @@ Type=exec
 ExecStart=/bin/sleep 300
 {}
 """
+ALLOWING = UNIT.format("""SystemCallFilter=@system-service
+SystemCallFilter=~clone3:EINVAL chmod:010 fchmod:EHWPOISON mseal:EPERM chown:08 lchown:+7 %n:ENOENT
+SystemCallErrorNumber=EACCES""")
+DROP_IN = """[Service]
+SystemCallFilter=~mkdir:0x10 \\
+# a comment
+ rmdir:0b11
+"""
+DENYING = UNIT.format("""SystemCallFilter=~mseal listmount mount:0 swapoff:E2BIG reboot:0o17 syncfs:kill swapon
+SystemCallErrorNumber=010
+SystemCallArchitectures=native""")
 # Units with each of the other settings, with parts of lists, and with all together.
 EVERY = "\n".join(f"{name}={'AF_UNIX AF_INET' if name == 'RestrictAddressFamilies' else 'yes'}" for name in OTHERS)
 SETTINGS = {**{name: f"{name}=yes" for name in OTHERS if name != "RestrictAddressFamilies"},
