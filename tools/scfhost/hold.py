@@ -18,7 +18,7 @@ from scftools.model.bpf import BPF_MAXINSNS, INSTRUCTION
 from scftools.forms.stacks import called
 from . import restart
 from .ptrace import (PTRACE_DETACH, PTRACE_EVENT_STOP, PTRACE_INTERRUPT, PTRACE_SECCOMP_GET_FILTER, PTRACE_SEIZE,
-                     Kernel, contents)
+                     Kernel, contents, has_ended)
 
 # linux/capability.h
 CAP_SYS_PTRACE = 19
@@ -27,8 +27,7 @@ CAP_SYS_ADMIN = 21
 PF_KTHREAD = 0x00200000
 PF_IO_WORKER = 0x00000010
 PF_USER_WORKER = 0x00004000
-# How long the others are held for one that doesn't stop, in seconds: it may wait for one of them, as a thread in
-# vfork(2) does.
+# How long the others are held for one that doesn't stop, in seconds: it may wait for one, as a thread in vfork(2) does.
 HELD_FOR_ONE = 0.2
 # How often and for how many seconds the kernel refuses to trace a thread before that is believed: one that ends or
 # executes a program is refused for a moment, on a loaded machine for longer, and so is one that another audit looks at.
@@ -240,7 +239,7 @@ class Hold:
             return False
         why = why_not_traced(self.kernel, thread, process, error)
         since, count, _ = self.refused_before.get(thread, (time.monotonic(), 0, False))
-        is_zombie = self.kernel.status_of(thread).get("State", "Z")[:1] in "ZX"
+        is_zombie = has_ended(self.kernel.status_of(thread))
         is_traced = Hold.vain_waits < MOST_VAIN_WAITS and other_tracer(self.kernel, thread) is not None
         self.refused[thread] = since, count + 1, is_zombie or is_traced
         if (why is None or is_traced) and not is_sure(*self.refused[thread]):
@@ -329,7 +328,7 @@ def why_not_shown(this: str, error: OSError) -> str:
     return {errno.EACCES: f"the kernel shows filters only to a process with CAP_SYS_ADMIN that has no filter of its "
                           f"own: {AS_ROOT}",
             errno.EINVAL: f"{never}: it was built without CONFIG_CHECKPOINT_RESTORE",
-            errno.EIO: f"{never}: {error.strerror}", errno.ENOSYS: f"{never}: {error.strerror}",
+            **dict.fromkeys((errno.EIO, errno.ENOSYS), f"{never}: {error.strerror}"),
             errno.EMEDIUMTYPE: f"{this} isn't kept as classic BPF, so the kernel can't show it"
             }.get(error.errno, f"{this} can't be read: {error.strerror}")
 

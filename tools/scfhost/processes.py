@@ -36,25 +36,21 @@ NEEDS = (f"This needs CAP_SYS_ADMIN and CAP_SYS_PTRACE, which root has outside o
 def inspection_of(kernel: Kernel, hold: Hold) -> Inspection:
     """The stacks of the stopped threads. An equal filter of another thread is kept once."""
     stacks: dict[tuple[tuple[bytes, ...], bool], Stack] = {}
-    names: dict[int, bytes] = {}
     asked_again = []
-    for thread in sorted(hold.stopped, key=lambda number: (hold.process_of[number], number)):
-        process = hold.process_of[thread]
+    stopped = sorted((hold.process_of[thread], thread) for thread in hold.stopped)
+    for process, thread in stopped:
         key = stack_of(kernel, thread, process)
-        stack = stacks.setdefault(key, Stack(*key))
-        stack.threads.setdefault(process, []).append(thread)
-        if hold.restarts.goes_to_supervisor_again(thread, stack.filters):
+        stacks.setdefault(key, Stack(*key)).threads.setdefault(process, []).append(thread)
+        if hold.restarts.goes_to_supervisor_again(thread, key[0]):
             asked_again.append((process, thread))
-        if process not in names:
-            names[process] = kernel.name_of(process)
+    names = {process: kernel.name_of(process) for process in dict.fromkeys(process for process, _ in stopped)}
     passed_over = {process: why for process, why in hold.passed_over.items() if process not in names}
     return Inspection(list(stacks.values()), names, passed_over, asked_again)
 
 
 def read_threads(kernel: Kernel, listed: Callable[[], dict[int, int]], patience: float,
                  is_forced: bool = False, restarts: Restarts | None = None) -> Inspection:
-    """Stops all threads that are listed, reads what each has, and lets them run on. `restarts` is that of an earlier
-    call, if there was one."""
+    """Stops all listed threads, reads what each has, and lets them run on. `restarts` are those of an earlier call."""
     why = why_no_filters(kernel)
     if why is not None:
         raise Unreadable(why)
@@ -124,8 +120,7 @@ def number_in(text: str) -> int:
 
 
 def read_or_end(read: Callable[[], Any], has_force: bool = False, is_json: bool = False) -> Any:
-    """The result of `read`; ends the tool where that fails, with an object that says so where one is wanted, or where a
-    signal came that ends it."""
+    """The result of `read`; ends the tool where that fails, with an object where one is wanted, or by a signal."""
     try:
         return read()
     except Unreadable as error:

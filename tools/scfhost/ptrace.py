@@ -68,8 +68,7 @@ def without_octal(field: bytes) -> bytes:
 
 
 def _group_mounts(process: int | str) -> Iterator[tuple[bytes, list[bytes], bytes, bytes]]:
-    """The control group mounts that a process sees (proc_pid_mountinfo(5)): the type, the options, the group that is
-    mounted, and where."""
+    """The control group mounts that a process sees (proc_pid_mountinfo(5)): type, options, mounted group, and where."""
     for line in contents(f"/proc/{process}/mountinfo").split(b"\n"):
         fields, _, source = line.partition(b" - ")
         kind, _, options = source.partition(b" ")
@@ -189,8 +188,7 @@ class Kernel:
         data = contents(f"/proc/{process}/cgroup")
         paths = self.groups.setdefault(data, {})
         for line in data.split(b"\n") if not paths else ():
-            _, _, fields = line.partition(b":")
-            controllers, _, path = fields.partition(b":")
+            controllers, _, path = line.partition(b":")[2].partition(b":")
             if path:
                 paths.update((name, path) for name in controllers.decode("utf-8", "replace").split(","))
         return paths

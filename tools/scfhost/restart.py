@@ -147,8 +147,7 @@ class Restarts:
         return known[call]
 
     def run(self, words: Sequence[str], filters: Sequence[bytes]) -> str:
-        """The text that scf prints of filters; empty if it isn't built, since building it takes long, or can't be
-        run."""
+        """The text that scf prints of filters; empty if it can't be run, or isn't built, which would take long."""
         self.remaining_runs -= 1
         try:
             return client.run_scf(words, bundles.stack_bundle(filters), may_build=False, most=MOST_BYTES).text
