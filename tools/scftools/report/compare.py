@@ -250,7 +250,7 @@ class Pair:
     @functools.cached_property
     def left_out(self) -> list[Report]:
         """What scf leaves out of each profile: names that no table has, and architectures without one."""
-        return [Report((), skipped=tuple(name for name in profiles.names_of(side.data) if not judged.has(name)),
+        return [Report((), skipped=tuple(name for name in profiles.names_of(side.data) if judged.number_of(name) is None),
                        architectures=tuple(oci for oci in profiles.architectures_of(side.data) if oci not in judged.of))
                 for side, judged in zip(self.sides, self.judged) if isinstance(side, ProfileInput)]
 

@@ -189,7 +189,7 @@ class Rows(Case):
         """No sampled call has a disposition that what is said excludes, and what is shown is so."""
         random_of, drawn = random.Random(35), set()
         for count in (*range(6, 30), *[60] * 6):
-            made = random_of.choice((random_plain, random_plain, random_filter))
+            made = random_of.choice((random_plain, random_plain, lambda drawn_by, _: random_filter(drawn_by)))
             filters = [made(random_of, count) for _ in range(random_of.choice((1, 1, 2)))]
             for row in of(filters).rows:
                 drawn.add(row.said)
