@@ -7,7 +7,7 @@ import unittest
 from support.common import Case, completed, filter_of, profile_of, sample, tool
 from support.oci import ALLOW, ERRNO, condition, entry
 from scftools.model import profiles
-from scftools.cli.words import is_object_name
+from scftools.cli.words import SHARED, argparse
 from scftools.forms import kubernetes
 
 # As the documentation of the Security Profiles Operator has them.
@@ -168,10 +168,12 @@ class Objects(Case):
             kubernetes.printed(profile, "a")
 
     def test_names(self):
+        read = SHARED["--kubernetes"]["type"]
         for name in ("a", "a-b.c0", "a" * 253):
-            self.assertTrue(is_object_name(name), name)
+            self.assertEqual(read(name), name)
         for name in ("", "A", "a_b", "-a", "a-", "a..b", "a.-b", "a" * 254, "a\n"):
-            self.assertFalse(is_object_name(name), name)
+            with self.assertRaises(argparse.ArgumentTypeError, msg=name):
+                read(name)
 
     def test_each_prints_one(self):
         """What a command prints is read again as what it prints without the option."""
