@@ -48,7 +48,7 @@ def nearest(word: int | None, is_permissive: bool, has_trap_data: bool) -> Answe
     answer = Answer.of_word(word)
     if answer.action == "UNNAMED":
         return NOTHING
-    is_said = not answer.data or answer.action in ACTIONS_WITH_DATA or has_trap_data and answer.action == "TRAP"
+    is_said = not answer.data or answer.action in ACTIONS_WITH_DATA or has_trap_data and answer.oci == TRAP
     return answer if is_said else Answer(answer.action, 0)
 
 

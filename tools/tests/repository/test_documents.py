@@ -11,7 +11,7 @@ import unittest
 
 from support.common import (ALLOW, CORE, PROGRAM, TABLE, TOOLS, TOP, Case, bytes_of, completed, filter_of,
                             for_developers, insn, jeq, load, module, part, profile_of, ret, text_of)
-from program import test_answers, test_profiles
+from program import test_answers, test_largest, test_profiles
 from support.on_parts import assembled, each_of
 
 # Of a row of faults: a source or a kind with its number in scf.h, and a kind between its status and its numbers.
@@ -449,7 +449,7 @@ class ManualOfTools(Case):
 
     def test_the_page_of_the_assembler_has_each_of_its_mnemonics(self):
         page = self.page("asm")
-        for _, _, _, _, line in test_answers.CODES:
+        for line in test_largest.LISTED.values():
             self.assertRegex(page, rf"\b{line.split()[0]}\b")
 
     @unittest.skipUnless(shutil.which("groff"), "there is no groff here")
