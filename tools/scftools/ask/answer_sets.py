@@ -2,9 +2,7 @@
 get it, by the regions of all records that scf finds.
 
 What no profile can test has variables of its own: the bits of the instruction pointer, those of the upper half of an
-argument that has 32 bits, and whether a record is answered as an open region says. The results only propose profiles:
-what is printed was compared by scf.
-"""
+argument of 32 bits, and whether a record is answered as an open region says. The results only propose profiles."""
 from __future__ import annotations
 
 from collections.abc import Sequence
@@ -20,7 +18,6 @@ Answers = "tuple[tuple[int | None, int], ...]"
 
 
 def _of_word(sets: Sets, word: int, values: Word) -> int:
-    """Where a word has one of these values."""
     index, half = divmod(word - ARGUMENTS, 2)
     is_tested = index >= 0 and 32 * half < sets.bits
     first = sets.bits * (index + 1) - 32 * (half + 1) if is_tested else FIRST_UNTESTED + 32 * word

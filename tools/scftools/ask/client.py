@@ -15,8 +15,7 @@ SCF = os.path.join(program.TOP, "scf")
 PROGRAMS = (os.path.join(program.TOP, "program", "scf"), os.path.join(program.TOP, "crates", "scf", "out", "scf"))
 # SIGKILL (signal(7)), which ends a process that exceeds its limit of CPU time.
 SIGKILL = 9
-# The most bytes of address space that the tools give scf. The largest real inputs take a sixth; 4 MiB of `{"":0}`
-# would take 530 MB.
+# The most bytes of scf's address space. The largest real inputs take a sixth; 4 MiB of `{"":0}` would take 530 MB.
 MAX_MEMORY = 256 << 20
 # A tool's comparisons without --limit: seconds of CPU time for the tool and all that it runs; after the first limit
 # comparisons have few steps, after the second none.
@@ -42,15 +41,13 @@ _kept_runs: dict[tuple[tuple[str, ...], bytes], Run] = {}
 _is_spent_reported = False
 # Whether a tool answers standard input in scf's place, and so has scf's own statuses.
 keeps_statuses = False
-# The CPU time of scf's comparisons since the limits began to count, in seconds; None if they count from the start of
-# the tool on, with its own time.
+# The seconds of CPU time of comparisons since the limits began to count; None if they count from the tool's start on.
 _seconds_of_scf: float | None = None
 
 
 def lines_of(text: str) -> list[str]:
     """The lines of a text; the last may lack its newline."""
-    lines = text.split("\n")
-    return lines if lines[-1] else lines[:-1]
+    return text.removesuffix("\n").split("\n") if text else []
 
 
 def rank(status: int) -> tuple[bool, int]:
@@ -85,8 +82,7 @@ class Fault:
 
 
 class Refusal(Exception):
-    """scf refuses an input, or fails: the line that it printed, its status, and its fault, None if the line isn't one.
-    """
+    """scf refuses an input, or fails: the line that it printed, its status, and its fault, if the line is one."""
 
     def __init__(self, line: str, status: int = TROUBLE):
         super().__init__(line)
@@ -133,7 +129,6 @@ def _command() -> tuple[str, list[str]]:
 
 
 def memory_file(data: bytes) -> int:
-    """A file descriptor with these bytes."""
     try:
         file = os.memfd_create("scf")
     except (AttributeError, OSError):
@@ -166,11 +161,9 @@ def _limit(child: int, seconds: float | None) -> None:
 
 def run_scf(words: Sequence[str], given: bytes | None = b"", seconds: float | None = None, may_build: bool = True,
             most: int = MOST_OF_ANSWER) -> Run:
-    """Runs scf on these bytes, or if they are None on this process's standard input.
-
-    After so many seconds of CPU time it is killed, and the result is empty and UNKNOWN; after so many bytes it is, too,
-    and the result is `unfinished`. If scf isn't built, its launcher builds it first, which takes long; without
-    `may_build` the result is then empty and NOT_BUILT.
+    """Runs scf on these bytes, or if they are None on this process's standard input. After so many seconds of CPU time
+    it is killed, and the result is empty and UNKNOWN; after so many bytes it is, too, and the result is `unfinished`.
+    If scf isn't built, its launcher builds it, which takes long; without `may_build` the result is empty and NOT_BUILT.
     """
     if given is None or not program.is_tool:
         return _run(words, given, seconds, may_build, most)
@@ -182,7 +175,6 @@ def run_scf(words: Sequence[str], given: bytes | None = b"", seconds: float | No
 
 
 def _run(words: Sequence[str], given: bytes | None, seconds: float | None, may_build: bool, most: int) -> Run:
-    """The run of scf that `run_scf` needs."""
     path, before = _command()
     if path == SCF and not may_build:
         return Run(NOT_BUILT, b"")
@@ -235,8 +227,7 @@ def compile_profile(profile: bytes, tables: Tables) -> bytes:
 
 
 def begin_limits(seconds: float = SECONDS, is_reported: bool = True) -> None:
-    """Has the limits count from now on, and scf's time alone, for a tool that does its work again and again; so many
-    seconds are left until comparisons have few steps."""
+    """Has the limits count anew, and scf's time alone; so many seconds are left until comparisons have few steps."""
     global _is_spent_reported, _seconds_of_scf  # pylint: disable=global-statement
     _is_spent_reported, _seconds_of_scf = not is_reported, SECONDS - seconds
 
@@ -247,18 +238,15 @@ def _seconds_left(until: float) -> float:
 
 
 def has_time(has_all: bool = False) -> bool:
-    """Whether comparisons still have some steps, or all of theirs: a tool without --limit has some CPU time for them.
-    """
+    """Whether comparisons still have steps, or all of theirs: a tool without --limit has some CPU time for them."""
     return "limit" in limits or not program.is_tool or _seconds_left(SECONDS if has_all else ALL_SECONDS) > 0
 
 
 def compare(words: Sequence[str], bundle: bytes) -> Run:
-    """`scf compare` within the limits of the command line."""
     return _limited(["compare", *words, *(f"--{name}={text}" for name, text in limits.items())], bundle, MOST_STEPS)
 
 
 def answers(words: Sequence[str], bundle: bytes) -> Run:
-    """`scf answers` within them."""
     of_limit = [f"--limit={limits['limit']}"] if "limit" in limits else []
     return _limited(["answers", *words, *of_limit], bundle)
 

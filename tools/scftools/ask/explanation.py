@@ -19,7 +19,6 @@ MORE_SPLITS = "not known: allow more splits and steps, --splits N --limit N"
 
 
 def join_names(names: Sequence[str]) -> str:
-    """Names in a sentence."""
     return names[0] if len(names) == 1 else ", ".join(names[:-1]) + f" and {names[-1]}"
 
 
@@ -40,7 +39,6 @@ def _rows() -> dict[str, list[str]]:
 
 
 def has_row(line: str) -> bool:
-    """Whether the page has a row for a printed line."""
     return _key(line) in _rows()
 
 
@@ -50,8 +48,7 @@ def what_a_row_says(line: str) -> list[str]:
 
 
 def explain_fault(fault: Fault, table: Table | None = None) -> Iterator[str]:
-    """The explanation of a fault, and what to do; with a table also the syscall of which two entries conflict, if a
-    line that somebody cut has it."""
+    """What a fault means, and what to do; with a table also the syscall of which two entries conflict."""
     yield from what_a_row_says(fault.line)
     if (fault.source, fault.kind) == ("profile", "Conflict") and table is not None and "number" in fault.numbers:
         yield f"the syscall is {Call(fault.numbers['number']).describe(table)}"
@@ -104,7 +101,6 @@ def explain_architectures(report: Report) -> Iterator[str]:
 
 
 def explain_answer(call: Call | None, answer: Answer, table: Table) -> Iterator[str]:
-    """The syscall, and what an answer to it does."""
     if call is not None:
         yield from explain_call(call, table)
     yield answer.describe()

@@ -1,8 +1,7 @@
 """Syscalls of a machine's other ABIs, which a profile doesn't name: whether filters deny all of them.
 
 A filter that doesn't test the architecture takes the number of an i386 syscall for one of x86-64; and x32 syscalls have
-the architecture of x86-64, with numbers from 0x40000000 on. An x86-64 kernel has no other ABIs, one of aarch64 has arm.
-"""
+the architecture of x86-64, with numbers from 0x40000000 on. An x86-64 kernel has no others, one of aarch64 has arm."""
 from __future__ import annotations
 
 from collections.abc import Sequence
@@ -65,9 +64,8 @@ class AbiAccess:
 
 def abi_access(filters: Sequence[bytes], filter_regions: Sequence[Region] | None,
                architecture: Architecture, last: int = NO_CALL - 1) -> AbiAccess:
-    """Whether filters deny each syscall of an ABI with a number up to the last that a kernel may have, or another one,
-    given their regions, or their differences from a profile that denies the ABI, or None if these are unfinished.
-    Raises Refusal."""
+    """Whether filters deny each syscall of an ABI with a number up to the last of a kernel, or another one, given their
+    regions, or their differences from a profile that denies the ABI; None if these are unfinished. Raises Refusal."""
     last = min(architecture.last, last)
     ranges = None if filter_regions is None else Numbers(filter_regions, architecture, last).ranges
     for low, high, here in ranges or ():

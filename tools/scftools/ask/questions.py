@@ -2,8 +2,7 @@
 
 A syscall is always denied if the filters are no more permissive than a profile that denies everything, and always
 allowed if they are no stricter than one that allows everything. Compared with a profile that delegates everything to a
-tracer, no more means never allowed, and no less never denied. If a relation fails, scf gives an example.
-"""
+tracer, no more means never allowed, and no less never denied. If a relation fails, scf gives an example."""
 from __future__ import annotations
 
 from collections.abc import Iterator, Sequence
@@ -49,7 +48,6 @@ class Asker:
         return verdicts.compared(self.filters, profile, judged, [*words, *RELATIONS[relation]], self.architecture)
 
     def profile_of(self, question: Question) -> bytes:
-        """The profile of a question, for the architecture."""
         return question.answer.as_profile(self.architecture.oci)
 
     @property
@@ -73,7 +71,6 @@ class Asker:
         return self._asked(self.profile_of(question), question.relation, words).verdict
 
     def decided(self, call: Call) -> Answer | None:
-        """The filters' answer to a record."""
         done = client.run_scf(["decide", *call.words()], bundles.stack_bundle(self.filters))
         return verdicts.decision(done.text).answer
 

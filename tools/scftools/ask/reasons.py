@@ -69,8 +69,7 @@ def index_of(reason: Reason, origins: Sequence[Origin] | None) -> int | None:
 
 
 def conditions_met(reason: Reason, profile: bytes, call: Call) -> list[str]:
-    """Lines on the conditions of the entry that gives the answer, if one does, as far as it is known that a call meets
-    them, with the values of its arguments."""
+    """Lines on those conditions of the entry that gives the answer which a call is known to meet, with its values."""
     entry, lines = None if reason.entry is None else profiles.entry_at(profile, reason.entry), []
     for _, condition in profiles.objects_in(entry or {}, "args"):
         index, op, value, two = (condition.get(name) for name in ("index", "op", "value", "valueTwo"))
@@ -100,7 +99,6 @@ def describe_reason(reason: Reason, profile: bytes, call: Call | None,
 
 def reason_json(reason: Reason, profile: bytes, call: Call | None,
                 origins: Sequence[Origin] | None = None) -> dict[str, object]:
-    """The reason as members of an object."""
     if reason.answer is None:
         return {}
     return {"reason": reason.by, **({} if reason.entry is None else {

@@ -4,8 +4,7 @@ with `--differences` all that two sides may answer differently, each set with bo
 Each record lies in a region, or gets the same answer from both sides. All records of an exact one get its answer, and
 no record lies in two exact ones. Open regions come of a test that scf doesn't decide: a record may lie in several of
 them, and gets the answer of one. So differences tell which relation holds over some records, and where one fails they
-have a record with both answers and what gives these.
-"""
+have a record with both answers and what gives these."""
 from __future__ import annotations
 
 import bisect
@@ -44,14 +43,12 @@ def _number_in(text: str) -> int:
 # (many words have the same)
 @functools.lru_cache(None)
 def _bits_in(text: str) -> tuple[int, int]:
-    """A mask and the bits in it."""
     mask, bits = text.split("=")
     return _number_in(mask), _number_in(bits)
 
 
 @functools.lru_cache(None)
 def _interval_in(text: str) -> tuple[int, int]:
-    """The least and the greatest value of an interval."""
     low, _, high = text.partition("-")
     return _number_in(low), _number_in(high or low)
 
@@ -74,7 +71,6 @@ class Word:
                    *(_bits_in(known) if known else (0, 0)), [*map(_bits_in, refuted)])
 
     def has(self, value: int) -> bool:
-        """Whether a value is possible."""
         for low, high in self.intervals:
             if low <= value <= high:
                 return value & self.mask == self.bits and not any(value & mask == bits for mask, bits in self.refuted)
@@ -107,15 +103,13 @@ FREE = Word()
 
 
 class Side:
-    """What a side answers to the records of a region: the answer and its reason as scf prints them, the answer, None if
-    it is computed, and the entry that gives it."""
+    """A side's answer to a region's records: as scf prints it; None if it is computed; and the entry that gives it."""
 
     def __init__(self, line: str, answer: Answer | None, entry: int | None):
         self.line, self.answer, self.entry = line, answer, entry
 
     @property
     def by(self) -> str:
-        """What gives a profile's answer."""
         if self.entry is not None:
             return f"by entry {self.entry}"
         return reasons.BY["stub" if self.line.endswith(" stub") else "default"]
@@ -201,8 +195,7 @@ def parse_regions(text: str, places: Sequence[int] | None = None) -> list[Region
 
 def asked(words: Sequence[str], bundle: bytes, places: Sequence[int] | None = None,
           number: int | None = None) -> list[Region] | None:
-    """The regions that scf prints, on request of one of x86-64's numbers alone; None if it took as many steps as it
-    may. Raises Refusal."""
+    """The regions that scf prints, on request of one x86-64 number; None if they are unfinished. Raises Refusal."""
     scope = [] if number is None else [f"--nr-from={number}", f"--nr-to={number}"]
     done = client.answers(["--examples", *words, *scope], bundle)
     regions = parse_regions(done.text, places) if done.status == program.SUCCESS else None
@@ -217,15 +210,13 @@ def asked(words: Sequence[str], bundle: bytes, places: Sequence[int] | None = No
 
 
 def regions_of_filters(filters: Sequence[bytes], number: int | None = None) -> list[Region] | None:
-    """The regions of filters, oldest first, on request of one of x86-64's numbers alone; None if they are unfinished.
-    Raises Refusal."""
+    """Those of filters, oldest first."""
     return asked([], bundles.stack_bundle(filters), number=number)
 
 
 def regions_of_profile(profile: bytes, judged: Tables, places: Sequence[int] | None = None,
                        number: int | None = None) -> list[Region] | None:
-    """The regions of a profile, on request with other places of entries, or of one number alone; None if unfinished.
-    Raises Refusal."""
+    """Those of a profile, on request with other places of entries."""
     return asked(judged.words, bundles.profile_bundle(profile, judged), places, number)
 
 
@@ -253,14 +244,12 @@ class Numbers:
             self.ranges.append((low, end - 1, [region for _, region in here]))
 
     def of(self, number: int) -> list[Region]:
-        """The regions with records of a number."""
         if self.ranges is None or not self.first <= number <= self.last:
             return [region for region in self._all if region.words.get(NUMBER, FREE).has(number)]
         return self.ranges[bisect.bisect(self.ranges, (number, self.last + 1)) - 1][2]
 
     def unnamed(self, table: Table) -> Iterator[tuple[int, int, Sequence[Region]]]:
-        """The numbers that a table doesn't name, range by range: the first as the table counts, how many, and the
-        regions, none if the ranges are too many."""
+        """The numbers that a table doesn't name, by ranges: the first as it counts, how many, and the known regions."""
         named = sorted(self.first + number for number in table.numbers())
         for low, high, here in [(self.first, self.last, [])] if self.ranges is None else self.ranges:
             within = named[bisect.bisect_left(named, low):bisect.bisect(named, high)]
@@ -328,8 +317,7 @@ def _verdict(relation: str, listed: Iterable[Region], record_in: Callable[[Regio
 
 
 class Lookup:
-    """The regions in which records lie, of those that scf prints, or None if they are unfinished; and what it calls the
-    second of two sides."""
+    """The regions in which records lie, None if they are unfinished; and what scf calls the second of two sides."""
 
     def __init__(self, regions: Sequence[Region] | None, beside: str = "profile"):
         self.regions, self.is_finished, self._beside = regions, regions is not None, beside
@@ -337,7 +325,6 @@ class Lookup:
         self._numbers: dict[str, Numbers] = {}
 
     def of_architecture(self, architecture: Architecture) -> Numbers:
-        """Those of an architecture, by syscall numbers."""
         if architecture.oci not in self._numbers:
             self._numbers[architecture.oci] = Numbers(self.regions, architecture)
         return self._numbers[architecture.oci]
@@ -356,8 +343,7 @@ class Lookup:
 
     @property
     def unknown(self) -> Verdict:
-        """The verdict where the regions don't tell: the first of which not both answers are known has the index of the
-        instruction at which runs of a filter end."""
+        """The verdict where regions don't tell; one without both answers has the index at which a filter's runs end."""
         places = [region.line.rpartition(":")[2] for region in self.regions or () if not region.is_decided]
         return Verdict(UNDECIDED, at=int(places[0])) if places else Verdict(UNFINISHED)
 

@@ -2,8 +2,7 @@
 
 Lines are parsed by their order, since the names in them are untrusted: the first line is the verdict or a fault, the
 next ones are its example, or syscalls by name. From the first `skipped` or `other` line on nothing is parsed: names may
-have newlines in them.
-"""
+have newlines in them."""
 from __future__ import annotations
 
 import re
@@ -25,8 +24,7 @@ ALL, NATIVE_SCOPE, CALLS, LISTED = "all", "native", "calls", "listed"
 SAME, DIFFERS, UNDECIDED, UNFINISHED = "same", "differs", "undecided", "unfinished"
 # The options of scf for each of them, beside those of the tables.
 SCOPES = {ALL: [], NATIVE_SCOPE: ["--native"], CALLS: ["--calls"], LISTED: []}
-# Only from the tools: the syscall that decides is of an architecture that the profile names, and scf has no table of
-# it.
+# Only from the tools: the syscall that decides is of an architecture that the profile names, and scf has no table.
 UNDETERMINED = "undetermined"
 FOR_OTHER_ABI = f"{UNDETERMINED}: the profile is for this architecture, too"
 # The first two with --no-more and --no-less.
@@ -81,7 +79,6 @@ class Verdict:
 
     @property
     def status(self) -> int:
-        """scf's exit status with it."""
         return program.SUCCESS if self.holds else program.NEGATIVE if self.fails else program.UNKNOWN
 
     def as_json(self, table: Table, sides: tuple[str, str] = ("filter", "profile")) -> dict[str, object]:
@@ -115,7 +112,6 @@ class NamedCall:
 
     @property
     def record(self) -> Call:
-        """A record of the syscall."""
         return self.verdict.call or Call(self.architecture.first + self.number, self.architecture.number)
 
     def as_json(self) -> dict[str, object]:
@@ -127,10 +123,8 @@ class NamedCall:
 
 @dataclass(frozen=True)
 class Report:
-    """The output of `scf compare`: a verdict or a fault, and what was left out of the profile.
-
-    `lines` are those of the verdict and the syscalls. Names and architectures are untrusted.
-    """
+    """The output of `scf compare`: a verdict or a fault, and what was left out of the profile. `lines` are those of the
+    verdict and the syscalls. Names and architectures are untrusted."""
 
     lines: tuple[str, ...]
     verdict: Verdict | None = None
@@ -141,7 +135,6 @@ class Report:
 
     @classmethod
     def of(cls, verdict: Verdict, beside: str = "profile") -> Report:
-        """The report on a verdict as scf prints it."""
         if verdict.call is None:
             return cls((verdict.word if verdict.at is None else f"{verdict.word} at {verdict.at}",), verdict)
         return cls((verdict.word, verdict.call.line, f"filter {verdict.filters.line}",
@@ -197,11 +190,8 @@ def report(text: str, pointer: int | None = 0, architecture: Architecture = JUDG
 
 
 def behind_left_out(printed: bytes) -> tuple[Report, bytes]:
-    """What `scf compile --left-out` prints: a report on what is left out of the profile, and the filter.
-
-    A line between them has the length of each name. It is the last that begins so, whatever the names are: no filter
-    has so many bytes without a zero.
-    """
+    """What `scf compile --left-out` prints: a report on what is left out of the profile, and the filter. A line between
+    them has the length of each name. It is the last that begins so: no filter has so many bytes without a zero."""
     begin = printed.rindex(LEFT_OUT_END)
     end, at = printed.index(b"\n", begin), 0
     names: dict[str, list[str]] = {}

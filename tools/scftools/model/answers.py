@@ -22,8 +22,7 @@ DOES = {
     "TRACE": "a tracer handles the syscall; without one it fails with ENOSYS",
     "UNNAMED": "the process is killed, since seccomp(2) has no such action",
 }
-# The disposition of a syscall, the strictest first. It follows from the action alone; the rank of an answer only says
-# which of a stack's answers decides.
+# The dispositions of a syscall, the strictest first, which follow from the action alone.
 DISPOSITIONS = DENIED, DELEGATED, ALLOWED = "denied", "delegated", "allowed"
 # What it depends on the arguments whether a syscall is.
 DEPENDS = "depends"
@@ -58,20 +57,16 @@ class Answer:
 
     @classmethod
     def of_word(cls, word: int) -> Answer:
-        """The answer of the 32 bits that a filter returns."""
         action = ACTIONS.get(word >> 16)
         return cls("UNNAMED", word) if action is None else cls(action, word & 0xFFFF)
 
     @property
     def line(self) -> str:
-        """The answer as scf prints it."""
-        return str(self) if self.action == "UNNAMED" else f"{self.action} {self.data}"
+        return f"UNNAMED {self.data:#010x}" if self.action == "UNNAMED" else f"{self.action} {self.data}"
 
     def __str__(self) -> str:
         """The action, with its data unless that means nothing."""
-        if self.action == "UNNAMED":
-            return f"UNNAMED {self.data:#010x}"
-        return f"{self.action} {self.data}" if self.data or self.action in ("ERRNO", "TRACE", "TRAP") else self.action
+        return self.line if self.data or self.action in ("ERRNO", "TRACE", "TRAP", "UNNAMED") else self.action
 
     @property
     def allows(self) -> bool:

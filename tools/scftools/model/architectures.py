@@ -33,8 +33,7 @@ class Architecture:
 
     oci: str
     name: str
-    # what is added to a number of the table, and the bits of an argument that are compared: those of libseccomp's
-    # ARCH_SIZE
+    # what is added to a number of the table, and the bits of an argument that are compared (libseccomp's ARCH_SIZE)
     first: int = 0
     bits: int = 64
     # what its header adds to some numbers, as far as the table has it; whether that names a syscall by another one;
@@ -61,7 +60,6 @@ class Architecture:
 
     @property
     def number(self) -> int:
-        """Its number in linux/audit.h."""
         return NUMBERS[self.oci]
 
     @property
@@ -120,8 +118,7 @@ def machine_architecture() -> str:
 
 
 def architecture_of_record(number: int, nr: int) -> str | None:
-    """The OCI name of the architecture that a record with this audit number and this syscall number is of, None if that
-    isn't known. Numbers from 0x40000000 on are x32's on x86-64."""
+    """The OCI name of the architecture of a record with this audit number and this syscall number, if it is known."""
     if number == X86_64:
         return X32 if nr >= answers.FIRST_X32 else NATIVE
     return profile_name(number)
@@ -164,8 +161,7 @@ def _refuse_big_endian(name: str | None) -> None:
 
 
 def judged_in(text: str | None) -> Architecture:
-    """The architecture that a word names, or a number as `number_in` takes it; without one this machine's own. Raises
-    ToolError if scf doesn't judge it."""
+    """The architecture that a word names, or a number as `number_in` takes it, or this machine's. Raises ToolError."""
     name = machine_architecture() if text is None else name_in(text)
     if text is not None and re.fullmatch("(?:0x)?[0-9a-fA-F]+", text):
         name = profile_name(int(number_in(text), 0))

@@ -1,9 +1,7 @@
 """Sets of syscall arguments as binary decision diagrams: ordered and reduced, so that equal sets are equal numbers.
 
 A variable is a bit of an argument, from the highest bit of argument 0 to the lowest of argument 5. The variables from
-`FIRST_UNTESTED` on stand for what a profile can't test. The results only propose profiles: what is printed was compared
-by scf.
-"""
+`FIRST_UNTESTED` on stand for what a profile can't test. The results only propose profiles, which scf compares."""
 from __future__ import annotations
 
 import functools
@@ -57,7 +55,6 @@ class Sets:
         self.spend = steps.spend
 
     def node(self, variable: int, low: int, high: int) -> int:
-        """The set with these parts."""
         if low == high:
             return low
         key = variable, low, high
@@ -120,7 +117,6 @@ class Sets:
         return functools.reduce(self.either, nodes, EMPTY_SET)
 
     def copy(self, node: int, theirs: Sets) -> int:
-        """A set of others."""
         memo = {EMPTY_SET: EMPTY_SET, FULL_SET: FULL_SET}
 
         def visit(now: int) -> int:
@@ -142,7 +138,6 @@ class Sets:
         return weight
 
     def variables(self, node: int) -> frozenset[int]:
-        """The variables that a set depends on."""
         if node not in self._variables:
             seen, pending = {EMPTY_SET, FULL_SET}, [node]
             while pending:
@@ -195,11 +190,9 @@ class Sets:
         return node == FULL_SET
 
     def widest_mask(self, node: int, index: int, value: int, lowest: int, kept_bits: int) -> int:
-        """A mask such that all values of an argument that agree in it with one are in a set of its values.
-
-        It has the bits to be kept. It lacks the lowest bits, so many of them, which must be possible, those that don't
-        matter, and as many others as can be dropped, from the highest on.
-        """
+        """A mask such that all values of an argument that agree in it with one are in a set of its values. It has the
+        bits to be kept. It lacks the lowest bits, so many of them, which must be possible, those that don't matter, and
+        as many others as can be dropped, from the highest on."""
         some_other = self.for_some(self.complement(node), self.bits * (index + 1) - lowest)
         mask, now = kept_bits, self.complement(some_other)
         while now > FULL_SET:

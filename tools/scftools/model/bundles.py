@@ -39,6 +39,5 @@ def stack_bundle(filters: Sequence[bytes]) -> bytes:
 
 def profile_bundle(profile: bytes, tables: Tables, filters: Sequence[bytes] = (),
                    counts: Iterable[tuple[str, bytes]] = ()) -> bytes:
-    """The bundle of a profile and tables, with filters, oldest first, for `scf compare`, or with how often syscalls are
-    called for `scf compile`."""
+    """The bundle of a profile and tables, with filters, oldest first, or with how often syscalls are called."""
     return bundle([*(("filter", data) for data in filters), ("profile", profile), *tables.parts, *counts])

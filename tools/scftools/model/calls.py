@@ -34,7 +34,6 @@ def number_text(number: int, architecture: int = X86_64) -> str:
 
 
 def arguments_in(registers: dict[str, int], architecture: int) -> tuple[int, ...]:
-    """The six arguments in the registers of a thread."""
     return tuple(registers[name] & REGISTER_MASKS[architecture] for name in ARGUMENT_REGISTERS[architecture])
 
 
@@ -58,7 +57,6 @@ class Call:
 
     @property
     def line(self) -> str:
-        """The same line."""
         return (f"call nr {self.number} arch {self.architecture:#x} ip {self.pointer or 0:#x} args "
                 f"{' '.join(map(hex, self.arguments))}")
 
@@ -91,7 +89,6 @@ class Call:
         return [f"--{name}={number:#x}" for name, number in zip(OPTIONS, numbers) if number is not None]
 
     def describe(self, table: Table) -> str:
-        """The syscall's name and number."""
         if self.number == SKIPPED:
             return number_text(self.number)
         named = " or ".join(self.names(table))

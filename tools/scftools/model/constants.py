@@ -95,11 +95,9 @@ def number_of(name: str, architecture: str) -> int:
 
 
 def argument_in(text: str, architecture: str) -> str:
-    """An argument as scf takes it: given as a number, as a negative one (-1), or as constants and numbers with `|`.
-
-    A negative number has 64 bits, on i386 and arm 32. What is neither is left to scf, which refuses it. Raises
-    ToolError if a constant isn't known on the architecture of this OCI name.
-    """
+    """An argument as scf takes it: given as a number, as a negative one (-1) of 64 bits, on i386 and arm 32, or as
+    constants and numbers with `|`. What is neither is left to scf, which refuses it. Raises ToolError if a constant
+    isn't known on the architecture of this OCI name."""
     row = architectures.JUDGED.get(architecture)
     number, width = number_in(text.removeprefix("-")), 64 if row is None else row.register_bits
     if text.startswith("-") and number is not None:
@@ -202,7 +200,6 @@ def _words() -> tuple[dict[str, list[str]], dict[str, list[str]]]:
 
 @functools.lru_cache(None)
 def _family(name: str, architecture: str) -> Family:
-    """A family, of constants that are on an architecture what they are on x86-64."""
     return Family(_words()[0][name], architecture)
 
 

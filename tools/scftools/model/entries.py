@@ -28,8 +28,6 @@ EQUAL, NOT_EQUAL, AT_LEAST, AT_MOST, MASKED = (f"SCMP_CMP_{operator}"
 
 @dataclass(frozen=True)
 class Condition:
-    """A condition of an entry on an argument."""
-
     index: int
     op: str
     value: int
@@ -106,7 +104,6 @@ def default_of(top: Object) -> Answer:
 
 
 def entry_of(place: int, entry: Object, number_of: Callable[[str], int | None]) -> Entry:
-    """An entry as scf reads it, with those of its names that a table has."""
     conditions = tuple(Condition(condition["index"], condition["op"], condition["value"], condition.get("valueTwo", 0))
                        for condition in entry.get("args", []))
     names = dict.fromkeys(entry["names"])

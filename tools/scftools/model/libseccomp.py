@@ -3,8 +3,7 @@ makes, and the rules that it adds for syscalls that socketcall and ipc make too.
 
 For each rule of such a syscall libseccomp adds one of socketcall or ipc (its abi_rule_add): argument 0 is the syscall's
 number there, in place of a condition on argument 0, and the other conditions stay. A rule of socketcall or ipc itself
-without conditions covers them.
-"""
+without conditions covers them."""
 from __future__ import annotations
 
 import errno
@@ -57,8 +56,7 @@ class Library:
         self.version = ".".join(map(str, version.contents)) if version else "of unknown version"
 
     def number_of(self, name: str, architecture: str = NATIVE) -> int | None:
-        """The number of a name on an architecture, as in a record; below 0 if the architecture has no such syscall and
-        others do, None if it isn't known."""
+        """The number of a name on an architecture; below 0 if only others have the syscall, None if it isn't known."""
         data = name.encode("utf-8", "surrogatepass")
         number = self._number_of(TOKENS[architecture], data) if b"\0" not in data else UNKNOWN_NAME
         return None if number == UNKNOWN_NAME else number
@@ -97,7 +95,6 @@ class Library:
 
 
 def installed() -> Library | None:
-    """The library, or None if there is none."""
     try:
         return Library()
     except program.ToolError:

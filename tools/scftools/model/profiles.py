@@ -1,7 +1,6 @@
 """The parts of a profile that the tools read themselves: its default, its names, an entry by its index, the members
-that a runtime reads as others, and where JSON is malformed. Only scf judges the profile; if something can't be read
-here, the tools say nothing about it.
-"""
+that a runtime reads as others, and where JSON is malformed. Only scf judges the profile; of what can't be read here the
+tools say nothing."""
 from __future__ import annotations
 
 import functools
@@ -143,8 +142,7 @@ def folded(name: str) -> str:
 
 @dataclass(frozen=True)
 class Misread:
-    """A member that a runtime or engine in Go reads as another one: one in another spelling, or one that is repeated in
-    an object, of which the last counts."""
+    """A member that programs in Go read as another one: in another spelling, or repeated, where the last counts."""
 
     # the object that has it, as "entry 3: args 0"; "the profile" at the top
     where: str
@@ -171,7 +169,6 @@ def where_in(where: str, step: str | int) -> str:
 
 
 def _misread_in(value: object, kind: object, where: str) -> Iterator[Misread]:
-    """The misread members of an object, and of objects in it, given what such a value has."""
     if isinstance(value, Pairs) and isinstance(kind, dict):
         names, seen = {folded(name): name for name in kind}, set()
         for name, inner in value:
@@ -188,9 +185,7 @@ def _misread_in(value: object, kind: object, where: str) -> Iterator[Misread]:
 
 
 def misread_members(data: bytes) -> list[Misread]:
-    """The members of a profile, or of a whole config.json, that a Go program reads differently than scf: those in
-    another spelling, by letters of another case, U+017F or U+212A, and those that are repeated in an object. None are
-    found if the profile can't be read."""
+    """The members of a profile, or a whole config.json, that Go programs read otherwise than scf, if it can be read."""
     try:
         top = json.loads(data.decode("utf-8"), object_pairs_hook=Pairs, parse_int=str, parse_float=str)
         return list(_misread_in(top, CONFIG_MEMBERS, "the profile"))
@@ -205,8 +200,7 @@ def objects_in(value: dict[str, Any], name: str) -> Iterator[tuple[int, Any]]:
 
 
 def parts_of(top: dict[str, Any]) -> Iterator[tuple[tuple[int, ...], Any, dict[str, Any]]]:
-    """The profile, its entries and their conditions: each with the indexes of the entry and of the condition that it
-    is, as far as it is one, and the members that are known."""
+    """The profile, its entries and conditions: each with its indexes, as far as it is one, and the known members."""
     yield (), top, SECCOMP_MEMBERS
     for place, entry in objects_in(top, "syscalls"):
         yield (place,), entry, ENTRY
@@ -231,8 +225,7 @@ def errno_by_name(data: bytes) -> str | None:
 
 
 def _odd_value(text: str) -> str | None:
-    """A value that Python's reader takes, and scf's doesn't, if it is found: NaN and the like, a number out of range,
-    an unpaired surrogate. Raises TooManyTokens."""
+    """A sentence on the first value that Python's reader takes and scf's doesn't, if any. Raises TooManyTokens."""
     for at, path, token in json_places.values(text):
         why = None
         if token in ("NaN", "Infinity", "-Infinity"):

@@ -25,10 +25,7 @@ def _blanked(name: str) -> list[str]:
 
 
 class Table:
-    """A syscall table: its bytes as scf takes them, and its names, which are parsed when they are needed.
-
-    scf judges the table; malformed lines are skipped here.
-    """
+    """A syscall table: its bytes, and its names, parsed when they are needed; lines that scf refuses are skipped."""
 
     def __init__(self, data: bytes):
         self.data = data
@@ -45,7 +42,6 @@ class Table:
         return names, numbers
 
     def names_of(self, number: int) -> list[str]:
-        """The names of a number, in the table's order."""
         return self._parsed[0].get(number, [])
 
     def number_of(self, name: str) -> int | None:
@@ -66,7 +62,6 @@ class Table:
         return self._parsed[0].keys()
 
     def without(self, names: Collection[str]) -> Table:
-        """The table without some names."""
         entries = [(line, TABLE_LINE.fullmatch(line)) for line in self.data.split(b"\n")]
         return Table(b"\n".join(line for line, entry in entries if entry is None or entry[1].decode() not in names))
 
@@ -89,9 +84,8 @@ def architecture_table(name: str) -> Table | None:
 
 @dataclass(frozen=True)
 class Tables:
-    """The tables of the architectures that a profile is judged for, by OCI names in scf's order; and how the profile is
-    read: by its words or as a runtime reads it, with the least number of a record that runc's stub answers, by
-    architecture."""
+    """The tables of the architectures that a profile is judged for, by OCI names in scf's order; how the profile is
+    read; and the least number of a record that runc's stub answers, by architecture."""
 
     of: dict[str, Table]
     reading: str = profiles.STRICT
@@ -123,7 +117,6 @@ class Tables:
 
     @property
     def parts(self) -> list[tuple[str, bytes]]:
-        """The parts of a bundle."""
         stubs = [(f"stub-{JUDGED[name].kind}", str(first).encode()) for name, first in self.stub.items()
                  if name in self.of]
         return [*((JUDGED[name].kind, table.data) for name, table in self.of.items()), *stubs]
@@ -214,8 +207,6 @@ def classify(names: Sequence[str], judged: Tables) -> Skipped:
 
 @dataclass(frozen=True)
 class Dangerous:
-    """Why a syscall is dangerous, and which argument bits make it so."""
-
     reason: str
     conditions: tuple[Condition, ...] = ()
 
