@@ -2,7 +2,6 @@
 `undecided` and `unfinished` are the rows of docs/FAULTS.md."""
 from __future__ import annotations
 
-import itertools
 import re
 from collections.abc import Iterator, Sequence
 
@@ -22,29 +21,27 @@ def join_names(names: Sequence[str]) -> str:
     return names[0] if len(names) == 1 else ", ".join(names[:-1]) + f" and {names[-1]}"
 
 
-def _key(line: str) -> str:
-    """The words of a printed line up to its numbers, which are the key of its row."""
+def _key(line: str) -> list[str]:
+    """The words of a printed line up to its numbers, or in the page of its row, where each may have alternatives."""
     words = line.split()
-    return " ".join(words[:3] if words[:1] == ["fault"] else words[:1])
+    return words[:3] if words[:1] == ["fault"] else words[:1]
 
 
-def _rows() -> dict[str, list[str]]:
-    """For each line in the page, by its words without numbers, the two sentences that stand below it."""
-    rows: dict[str, list[str]] = {}
+def _row(line: str) -> list[str]:
+    """The two sentences below a printed line in the page; none if it isn't there."""
     with open(program.FAULTS, encoding="utf-8") as file:
-        for line, *sentences in re.findall(r"^- `(.*)`\n  (.*)\n  (.*)$", file.read(), re.M):
-            alternatives = (word.split("|") for word in _key(line).split())
-            rows.update((" ".join(words), sentences) for words in itertools.product(*alternatives))
-    return rows
+        rows = re.findall(r"^- `(.*)`\n  (.*)\n  (.*)$", file.read(), re.M)
+    return next((sentences for row, *sentences in rows if len(_key(row)) == len(_key(line)) and all(
+        word in words.split("|") for word, words in zip(_key(line), _key(row)))), [])
 
 
 def has_row(line: str) -> bool:
-    return _key(line) in _rows()
+    return bool(_row(line))
 
 
 def what_a_row_says(line: str) -> list[str]:
     """The sentences of a printed line's row: when it appears, and what to do."""
-    return _rows().get(_key(line), ["docs/FAULTS.md doesn't name this line."])
+    return _row(line) or ["docs/FAULTS.md doesn't name this line."]
 
 
 def explain_fault(fault: Fault, table: Table | None = None) -> Iterator[str]:
