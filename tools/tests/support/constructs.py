@@ -2,16 +2,14 @@
 
 A filter beside a profile: each pair has one to three calls, one of which the profile allows by a condition that the
 filter tests by a construct. A filter beside another: both compute the same, one by a rewrite of the other, of one word
-or two of the record, and allow or deny. Both sides agree, or a constant of a filter is changed. The records at which a
-second machine looks for a difference are of the constants of both sides and their like.
+or two of the record, and allow or deny. Both sides agree, or a constant of a filter is changed.
 """
 import functools
 import json
 import operator
-from dataclasses import dataclass, field
 
 from .common import ALLOW, EPERM, KILL_PROCESS, X32, X86_64, insn
-from .judged import LONG, MACHINE, WORD, Pair, Profile, Stack, record_of
+from .judged import MACHINE, WORD, Pair, Profile, Stack
 
 LD, LDX, TAX, TXA, NEG, ST, RET, RET_A = 0x20, 0x01, 0x07, 0x87, 0x84, 0x02, 0x06, 0x16
 # Loads of a constant, and of scratch words to A and to X.
@@ -23,38 +21,30 @@ X = 0x08
 NUMBER, ARCHITECTURE, ARGUMENTS = 0, 4, 16
 
 
-@dataclass
-class Condition:
-    """A condition on an argument as a profile has it, and instructions that test it: each is a code and a constant, a
-    test has the labels that it goes to, too, and a jump has a label alone. They end at `yes` and `no`, or return; the
-    argument's words stand at `low` and four bytes further on."""
-
-    op: str
-    value: int
-    two: int = 0
-    code: list = field(default_factory=list)
-
-    def entry(self, index):
-        return {"index": index, "value": self.value, "op": self.op, "valueTwo": self.two}
+def condition(op, value, two=0, code=()):
+    """A condition as a profile has it, and instructions that test it: each is a code and a constant, a test has the
+    labels that it goes to, too, and a jump has a label alone. They end at `yes` and `no`, or return; the argument's
+    words stand at `low` and four bytes further on."""
+    return {"value": value, "op": op, "valueTwo": two}, code
 
 
 def masked(mask, value, low, *code):
     """The low word under a mask."""
-    return Condition("SCMP_CMP_MASKED_EQ", mask, value, [(LD, low), *code])
+    return condition("SCMP_CMP_MASKED_EQ", mask, value, [(LD, low), *code])
 
 
 def equal(value, low, *code):
     """A number below 2^32, by its low word; the high word is tested before."""
-    return Condition("SCMP_CMP_EQ", value, code=[(LD, low + 4), (JEQ, 0, "next", "no"), "next", (LD, low), *code])
+    return condition("SCMP_CMP_EQ", value, code=[(LD, low + 4), (JEQ, 0, "next", "no"), "next", (LD, low), *code])
 
 
 def least(value, low, *code):
     """At least a number below 2^32: a greater high word decides."""
-    return Condition("SCMP_CMP_GE", value, code=[(LD, low + 4), (JGT, 0, "yes", "next"), "next", (LD, low), *code])
+    return condition("SCMP_CMP_GE", value, code=[(LD, low + 4), (JGT, 0, "yes", "next"), "next", (LD, low), *code])
 
 
 def most(value, low, *code):
-    return Condition("SCMP_CMP_LE", value, code=[(LD, low + 4), (JEQ, 0, "next", "no"), "next", (LD, low), *code])
+    return condition("SCMP_CMP_LE", value, code=[(LD, low + 4), (JEQ, 0, "next", "no"), "next", (LD, low), *code])
 
 
 def is_equal(value, yes="yes", no="no"):
@@ -243,10 +233,10 @@ OF_LEAST = {
 }
 
 
-def of_row(condition, count, draw, codes, dice, low):
+def of_row(made, count, draw, codes, dice, low):
     """The condition of a row, by so many of the drawn numbers."""
     drawn = draw(dice)
-    return condition(*drawn[:count], low, *dice.choice(codes(*drawn, low)))
+    return made(*drawn[:count], low, *dice.choice(codes(*drawn, low)))
 
 
 # Other constructs
@@ -276,19 +266,19 @@ def by_joined_masks(dice, low):
 
 def by_joined_words(dice, low):
     value = dice.getrandbits(64)
-    return Condition("SCMP_CMP_EQ", value, code=[(LD, low + 4), (XOR, value >> 32), (TAX, 0), (LD, low),
+    return condition("SCMP_CMP_EQ", value, code=[(LD, low + 4), (XOR, value >> 32), (TAX, 0), (LD, low),
                                                  (XOR, value & WORD), (OR | X, 0), is_equal(0)])
 
 
 def by_no_bit_of_both(dice, low):
     words = [low, low + 4] if dice.random() < 0.5 else [low + 4, low]
-    return Condition("SCMP_CMP_EQ", 0, code=[(LD, words[0]), (TAX, 0), (LD, words[1]), (OR | X, 0), is_equal(0)])
+    return condition("SCMP_CMP_EQ", 0, code=[(LD, words[0]), (TAX, 0), (LD, words[1]), (OR | X, 0), is_equal(0)])
 
 
 def by_joined_words_under_masks(dice, low):
     high_mask, low_mask = some_mask(dice), some_mask(dice)
     high, value = value_in(dice, high_mask), value_in(dice, low_mask)
-    return Condition("SCMP_CMP_MASKED_EQ", high_mask << 32 | low_mask, high << 32 | value,
+    return condition("SCMP_CMP_MASKED_EQ", high_mask << 32 | low_mask, high << 32 | value,
                      [(LD, low + 4), (AND, high_mask), (XOR, high), (TAX, 0), (LD, low), (AND, low_mask), (XOR, value),
                       (OR | X, 0), is_zero(dice)])
 
@@ -379,12 +369,12 @@ def by_square(dice, low):
 
 def of_words(value, low, *code):
     """A number of 64 bits; the high word is tested, and in X."""
-    return Condition("SCMP_CMP_EQ", value, code=[(LD, low + 4), (JEQ, value >> 32, "next", "no"), "next", (TAX, 0),
+    return condition("SCMP_CMP_EQ", value, code=[(LD, low + 4), (JEQ, value >> 32, "next", "no"), "next", (TAX, 0),
                                                  (LD, low), *code])
 
 
 def least_of_words(value, low, *code):
-    return Condition("SCMP_CMP_GE", value, code=[(LD, low + 4), (JGT, value >> 32, "yes", "next"), "next",
+    return condition("SCMP_CMP_GE", value, code=[(LD, low + 4), (JGT, value >> 32, "yes", "next"), "next",
                                                  (JEQ, value >> 32, "then", "no"), "then", (TAX, 0), (LD, low), *code])
 
 
@@ -403,7 +393,7 @@ def by_shift_by_word(dice, low):
     by = dice.randrange(1, 31)
     code, mask = dice.choice(((LSH, WORD >> by), (RSH, WORD >> by << by)))
     value = value_in(dice, mask)
-    return Condition("SCMP_CMP_MASKED_EQ", WORD << 32 | mask, by << 32 | value,
+    return condition("SCMP_CMP_MASKED_EQ", WORD << 32 | mask, by << 32 | value,
                      [(LD, low + 4), (JEQ, by, "next", "no"), "next", (TAX, 0), (LD, low), (code | X, 0),
                       is_equal(value << by if code == LSH else value >> by)])
 
@@ -433,7 +423,7 @@ def wide_mask(dice):
 def by_three_parts_joined(dice, low):
     masks, value = [wide_mask(dice) for _ in range(3)], dice.getrandbits(64)
     high, value = value >> 32, value & WORD
-    return Condition("SCMP_CMP_MASKED_EQ", masks[0] << 32 | masks[1] | masks[2],
+    return condition("SCMP_CMP_MASKED_EQ", masks[0] << 32 | masks[1] | masks[2],
                      (high & masks[0]) << 32 | value & (masks[1] | masks[2]),
                      [(LD, low + 4), (AND, masks[0]), (XOR, high & masks[0]), (ST, 0),
                       (LD, low), (AND, masks[1]), (XOR, value & masks[1]), (ST, 1),
@@ -444,7 +434,7 @@ def by_three_parts_joined(dice, low):
 def by_and_of_words(dice, low):
     """All bits of a mask in each word."""
     high, mask = wide_mask(dice), wide_mask(dice)
-    return Condition("SCMP_CMP_MASKED_EQ", high << 32 | mask, high << 32 | mask,
+    return condition("SCMP_CMP_MASKED_EQ", high << 32 | mask, high << 32 | mask,
                      [(LD, low + 4), (OR, ~high & WORD), (TAX, 0), (LD, low), (OR, ~mask & WORD), (AND | X, 0),
                       *dice.choice(([is_equal(WORD)], [(XOR, WORD), is_zero(dice)], [(JGE, WORD, "yes", "no")]))])
 
@@ -453,7 +443,7 @@ def by_words_side_by_side(dice, low):
     """Masks that have no bit in common."""
     mask = dice.randrange(1, WORD)
     high, value = wide_mask(dice) & ~mask, dice.getrandbits(32)
-    return Condition("SCMP_CMP_MASKED_EQ", high << 32 | mask, (value & high) << 32 | value & mask,
+    return condition("SCMP_CMP_MASKED_EQ", high << 32 | mask, (value & high) << 32 | value & mask,
                      [(LD, low + 4), (AND, high), (TAX, 0), (LD, low), (AND, mask),
                       (dice.choice((OR, XOR, ADD)) | X, 0), is_equal(value & (high | mask))])
 
@@ -461,14 +451,14 @@ def by_words_side_by_side(dice, low):
 def by_shifted_words_joined(dice, low):
     by, value = dice.randrange(1, 32), dice.getrandbits(32)
     mask = (1 << by) - 1
-    return Condition("SCMP_CMP_MASKED_EQ", (WORD >> by) << 32 | mask, (value >> by) << 32 | value & mask,
+    return condition("SCMP_CMP_MASKED_EQ", (WORD >> by) << 32 | mask, (value >> by) << 32 | value & mask,
                      [(LD, low + 4), (LSH, by), (TAX, 0), (LD, low), (AND, mask), (dice.choice((OR, XOR)) | X, 0),
                       is_equal(value)])
 
 
 def by_some_bit_of_both(dice, low):
     masks = [wide_mask(dice) for _ in range(3)]
-    return Condition("SCMP_CMP_MASKED_EQ", (masks[0] & masks[2]) << 32 | masks[1] & masks[2], 0,
+    return condition("SCMP_CMP_MASKED_EQ", (masks[0] & masks[2]) << 32 | masks[1] & masks[2], 0,
                      [(LD, low + 4), (AND, masks[0]), (TAX, 0), (LD, low), (AND, masks[1]), (OR | X, 0),
                       (JSET, masks[2], "no", "yes")])
 
@@ -508,8 +498,8 @@ def by_flags(dice, low):
 
 # The constructs by their names.
 CONSTRUCTS = {
-    **{name: functools.partial(of_row, condition, count, draw, codes)
-       for condition, count, tables in ((masked, 2, OF_MASK), (equal, 1, OF_VALUE), (least, 1, OF_LEAST))
+    **{name: functools.partial(of_row, made, count, draw, codes)
+       for made, count, tables in ((masked, 2, OF_MASK), (equal, 1, OF_VALUE), (least, 1, OF_LEAST))
        for draw, rows in tables.items() for name, codes in rows.items()},
     **{name[3:].replace("_", " "): made for name, made in list(globals().items()) if name.startswith("by_")}}
 ENDS = ["no", (RET, EPERM), "yes", (RET, ALLOW)]
@@ -704,68 +694,25 @@ def profile_pair(dice, construct, is_changed):
     constant of the filter's part behind the tests of the number is changed."""
     numbers = dice.sample(range(400), dice.randint(1, 3))
     index = dice.randrange(6)
-    condition = construct(dice, ARGUMENTS + 8 * index)
+    condition_made, test = construct(dice, ARGUMENTS + 8 * index)
     code = [(LD, ARCHITECTURE), (JEQ, X86_64, "native", "kill"), "native", (LD, NUMBER), (JGE, X32, "kill", "t0"), "t0"]
     for at, number in enumerate(numbers):
         following = f"t{at + 1}" if at + 1 < len(numbers) else "no"
         code += [(JEQ, number, "yes" if at else "asked", following), following]
-    program = placed([*code[:-1], "asked", *condition.code, *ENDS, "kill", (RET, KILL_PROCESS)])
+    program = placed([*code[:-1], "asked", *test, *ENDS, "kill", (RET, KILL_PROCESS)])
     if is_changed:
         program = with_changed_constant(dice, program, 4 + len(numbers))
-    entries = [{"names": [f"c{number}"], "action": "SCMP_ACT_ALLOW", "args": [] if at else [condition.entry(index)]}
-               for at, number in enumerate(numbers)]
+    entries = [{"names": [f"c{number}"], "action": "SCMP_ACT_ALLOW",
+                "args": [] if at else [{"index": index, **condition_made}]} for at, number in enumerate(numbers)]
     profile = json.dumps({"defaultAction": "SCMP_ACT_ERRNO", "syscalls": entries})
-    arguments = corners_of_condition(dice, program, condition)
-    near = {number + by for number in numbers for by in (-1, 0, 1)} | {0, X32 - 1, X32, 1 << 31, WORD}
-    return Pair(Stack([packed(program)]), Profile(profile, "".join(f"c{number} {number}\n" for number in numbers)), [
-        record_of(number, X86_64, 0, [argument if at == index else 0 for at in range(6)])
-        for number in sorted(near - {-1}) for argument in (arguments if number == numbers[0] else (0, LONG))])
-
-
-def corners_of_condition(dice, program, condition):
-    """Arguments by the constants of a condition and of a filter: shifted, turned and their neighbours."""
-    value, two = condition.value, condition.two
-    constants = {k for code, _, _, k in program if code not in (LD, RET)} | {value & WORD, two}
-    shifts = {k for code, _, _, k in program if code in (LSH, RSH, LDX) and k < 32} | {16}
-    shifts |= {k.bit_length() - 1 for k in constants if k & (k - 1) == 0 and k}
-    shifted = {number for k in constants for by in shifts for number in (k << by & WORD, k >> by)}
-    lows = {(k + by) & WORD for k in constants | shifted for by in (-1, 0, 1)}
-    sums = {(a + sign * b) & WORD for a in constants for b in constants for sign in (-1, 1)}
-    lows |= {k ^ WORD for k in constants} | {a ^ b for a in constants for b in constants} | sums
-    lows |= {dice.getrandbits(32) for _ in range(8)} | {0, 1, WORD, 1 << 31}
-    lows |= {(two ^ (1 << bit)) & WORD for bit in range(32)}
-    high = value >> 32
-    highs = {0, 1, WORD, high, high ^ 1}
-    if two >> 32 or condition.op == "SCMP_CMP_MASKED_EQ" and high:
-        highs |= {two >> 32} | {two >> 32 ^ 1 << bit for bit in range(32)}
-    return [h << 32 | low for low in sorted(lows) for h in sorted(highs)]
+    table = "".join(f"c{number} {number}\n" for number in numbers)
+    return Pair(Stack([packed(program)]), Profile(profile, table), ())
 
 
 def filter_pair(dice, rewrite, is_changed):
     """Two filters beside each other, which test two words; on request a constant of one is changed."""
-    words = dice.sample(range(16), 2)
-    programs = [placed([*code, *ENDS]) for code in rewrite(dice, *(4 * word for word in words))]
+    programs = [placed([*code, *ENDS]) for code in rewrite(dice, *(4 * word for word in dice.sample(range(16), 2)))]
     if is_changed:
         side = dice.randrange(2)
         programs[side] = with_changed_constant(dice, programs[side])
-    records = []
-    for values in corners_of_words(dice, programs):
-        record = [0] * 16
-        for word, value in zip(words, values):
-            record[word] = value
-        records.append(record)
-    return Pair(Stack([packed(programs[0])]), Stack([packed(programs[1])], "beside"), records)
-
-
-def corners_of_words(dice, programs, count=400):
-    """Values of two words, by the constants of both filters and drawn."""
-    constants = {k for program in programs for code, _, _, k in program if code not in (LD, RET)}
-    near = {(k + by) & WORD for k in constants for by in (-1, 0, 1)} | {k ^ WORD for k in constants}
-    near |= {(a - b) & WORD for a in constants for b in constants} | {-k & WORD for k in constants}
-    near |= {a * b & WORD for a in constants for b in constants}
-    near |= {a // b for a in constants for b in constants if b}
-    near |= {pow(b, -1, 1 << 32) * a & WORD for a in constants for b in constants if b & 1}
-    near = sorted(near | {1 << bit for bit in range(32)} | {0, WORD})
-    yield from ((value, dice.choice(near)) for value in near)
-    yield from ((dice.choice(near), dice.choice(near)) for _ in range(count))
-    yield from ((dice.getrandbits(32), dice.getrandbits(32)) for _ in range(count))
+    return Pair(Stack([packed(programs[0])]), Stack([packed(programs[1])], "beside"), ())
