@@ -120,16 +120,11 @@ class Words(Case):
         return self.output_of(0, "decide", *words).split("\n")[0]
 
     def test_names_and_audits_hexadecimal(self):
-        for word in ("i386", "SCMP_ARCH_X86", "0x40000003", "x86"):
-            self.assertEqual(self.answer("--arch", word, "--nr=41", self.i386), "ERRNO 1", word)
-            self.assertEqual(self.answer(f"--arch={word}", "--nr=0", self.aarch64), "ALLOW 0", word)
-        for word in ("aarch64", "c00000b7", "SCMP_ARCH_AARCH64"):
-            self.assertEqual(self.answer("--arch", word, "--nr=41", self.aarch64), "ERRNO 1", word)
-        self.assertEqual(self.answer("--arch=c000003e", "--nr=socket", self.i386), "ALLOW 0")
+        self.assertEqual(self.answer("--arch", "i386", "--nr=41", self.i386), "ERRNO 1")
+        self.assertEqual(self.answer("--arch=c00000b7", "--nr=41", self.aarch64), "ERRNO 1")
         self.is_refused("--arch 40000003 is ambiguous: write 0x40000003 for SCMP_ARCH_X86", "decide", "--arch=40000003",
                         "--nr=41", self.i386)
-        self.assertEqual(self.run_tool("decide", "--nr=0", "--arch", "0x1ffffffff", self.i386)[:2][1].split("\n")[0],
-                         "fault number arch")
+        self.begins(2, "fault number arch", self.run_tool("decide", "--nr=0", "--arch", "0x1ffffffff", self.i386))
 
     def test_an_x32_number_has_its_bit(self):
         for number in ("41", "0x40000029"):
@@ -139,7 +134,7 @@ class Words(Case):
         self.assertEqual(value["calls"][0]["call"]["number"], X32)
 
     def test_a_name_is_that_of_the_architecture(self):
-        """socket is 359 on i386, 41 of x32, and 198 on aarch64 (asm/unistd*.h)."""
+        """As asm/unistd*.h have them: socket is 359 on i386, 41 of x32, and 198 on aarch64."""
         calls = self.file("calls", b"socket 2\n")
         for word in ("0", "sh", "0xffffffff"):
             for words in (("decide", "--nr=socket", self.i386), ("run", "--nr=socket", self.i386),
@@ -147,6 +142,12 @@ class Words(Case):
                           ("decide", "--calls-from", calls, self.i386)):
                 self.is_refused(f"there is no table of --arch {word}: give the number of 'socket'", words[0], "--arch",
                                 word, *words[1:])
+        for word, name, number in (("i386", "SYS_read", 3), ("x32", "execve", X32 + 520), ("x32", "__NR_read", X32),
+                                   ("aarch64", "openat", 56), ("arm", "set_tls", 0xF0005),
+                                   ("arm", "sync_file_range2", 341)):
+            value = self.json_of("decide", "--json", "--arch", word, "--nr", name, self.i386)["calls"][0]["call"]
+            self.assertEqual(value["number"], number)
+            self.assertIn(re.sub("^(SYS|__NR)_", "", name), value["names"])
         for word, number in (("i386", 359), ("0x40000003", 359), ("x32", X32 + 41), ("aarch64", 198), ("arm", 281)):
             for words in (("decide", "--nr=socket", self.i386), ("run", "--nr=socket", self.i386),
                           ("ask", "--nr=socket", self.profile), ("decide", "--calls-from", calls, self.i386)):
@@ -158,11 +159,23 @@ class Words(Case):
         for word in ("x86_64", "SCMP_ARCH_X86_64", "0xc000003e", "3221225534", "c000003e"):
             self.assertEqual(self.answer("--nr=socket", "--arch", word, self.i386), "ALLOW 0", word)
 
-    def test_number_minus_one(self):
-        status, out, _ = self.run_tool("decide", "--nr", "-1", self.x32)
-        self.assertEqual((status, out.split("\n")[:2]), (0, [
-            "ALLOW 0", "# the syscall is number -1, which a tracer sets to skip a syscall"]))
-        self.assertIn("# the syscall is number -1, which a tracer",
-                      self.run_tool("decide", "--nr=0xffffffff", self.x32)[1])
-        self.assertIn("# the syscall is number 4294967294 (0xfffffffe), which no syscall has",
-                      self.run_tool("decide", "--nr=0xfffffffe", self.x32)[1])
+    def test_how_they_are_shown(self):
+        skipped = "number -1, which a tracer sets to skip a syscall"
+        for words, shown in ((("--nr", "-1"), skipped), (("--nr=0xffffffff",), skipped),
+                             (("--nr=0xfffffffe",), "number 4294967294 (0xfffffffe), which no syscall has"),
+                             (("--arch=i386", "--nr=102"), "socketcall (102) of the architecture i386"),
+                             (("--arch=i386", "--nr=9999"), "number 9999 of the architecture i386"),
+                             (("--arch=arm", "--nr=0xf0002"), "cacheflush (983042) of the architecture arm"),
+                             (("--arch=x32", "--nr=520"), "execve (0x40000000 + 520), an x32 syscall"),
+                             (("--arch=x32", "--nr=500"), "number 1073742324 (0x40000000 + 500), an x32 syscall"),
+                             (("--arch=mipsel", "--nr=read"), "read (4003) of the architecture mipsel"),
+                             (("--arch=sh", "--nr=1"), "number 1 of the architecture 0x4000002a")):
+            self.assertIn(f"# the syscall is {shown}\n", self.run_tool("decide", *words, self.x32)[1])
+
+    def test_a_name_that_is_not_there(self):
+        for words, says in ((("--arch=i386", "--nr=socketcal"), "i386's table has no syscall 'socketcal'; the nearest "
+                                                                "name is 'socketcall'"),
+                            (("--nr=SYS_raed",), "the table has no syscall 'SYS_raed'; the nearest name is 'read'"),
+                            (("--nr=READ",), "the table has no syscall 'READ'; the nearest name is 'read'"),
+                            (("--arch=s390x", "--nr=1"), "SCMP_ARCH_S390X is big-endian")):
+            self.is_refused(says, "decide", *words, self.x32)

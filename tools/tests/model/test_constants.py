@@ -1,4 +1,4 @@
-"""Constants by name as arguments, syscalls by the names of their architecture, and the tables that have both."""
+"""Constants by name as arguments, and the tables that have them."""
 import errno
 import json
 import mmap
@@ -11,12 +11,11 @@ import socket
 import sys
 import unittest
 
-from support.common import (ALLOW, EPERM, I386, LOADER, TABLE, TOP, X86_64, Case, for_developers, insn, jeq, load, ret,
-                            text_of)
+from support.common import ALLOW, EPERM, LOADER, TABLE, TOP, Case, for_developers, jeq, load, ret, text_of
 from scftools.model import constants
 from scftools.forms import strace
 
-X32, ALL_ONES = 0x40000000, (1 << 64) - 1
+ALL_ONES = (1 << 64) - 1
 
 
 def rows(path):
@@ -245,44 +244,3 @@ class AsC(Case):
                     unlike += [] if is_so else [(line, shown)]
         self.assertEqual([], unlike)
         self.assertGreater(both, 500)
-
-
-class OtherArchitectures(Case):
-    """Syscalls of other architectures by name: expected values from asm/unistd_32.h and so on."""
-
-    def test_by_name(self):
-        for arch, name, number in (("i386", "socketcall", 102), ("i386", "SYS_read", 3), ("0x40000003", "clone", 120),
-                                   ("x32", "execve", X32 + 520), ("x32", "__NR_read", X32), ("aarch64", "openat", 56),
-                                   ("arm", "set_tls", 0xF0005), ("arm", "sync_file_range2", 341)):
-            asks = self.file("f.bpf", load(0) + jeq(number, 0, 1) + ret(EPERM) + ret(ALLOW))
-            status, out, err = self.run_tool("decide", "--json", "--arch", arch, "--nr", name, asks)
-            actual = json.loads(out)["calls"][0]
-            self.assertEqual((status, err, actual["answer"]["action"]), (0, "", "ERRNO"), (arch, name))
-            self.assertIn(name.removeprefix("SYS_").removeprefix("__NR_"), actual["call"]["names"])
-
-    def test_how_they_are_shown(self):
-        asks = self.file("f.bpf", ret(ALLOW))
-        for words, shown in ((("--arch=i386", "--nr=102"), "socketcall (102) of the architecture i386"),
-                             (("--arch=i386", "--nr=9999"), "number 9999 of the architecture i386"),
-                             (("--arch=arm", "--nr=0xf0002"), "cacheflush (983042) of the architecture arm"),
-                             (("--arch=x32", "--nr=520"), "execve (0x40000000 + 520), an x32 syscall"),
-                             (("--arch=x32", "--nr=500"), "number 1073742324 (0x40000000 + 500), an x32 syscall"),
-                             (("--arch=mipsel", "--nr=read"), "read (4003) of the architecture mipsel"),
-                             (("--arch=sh", "--nr=1"), "number 1 of the architecture 0x4000002a")):
-            self.assertIn(f"# the syscall is {shown}\n", self.run_tool("decide", *words, asks)[1])
-
-    def test_a_name_that_is_not_there(self):
-        asks = self.file("f.bpf", ret(ALLOW))
-        for words, says in ((("--arch=i386", "--nr=socketcal"), "i386's table has no syscall 'socketcal'; the nearest "
-                                                                "name is 'socketcall'"),
-                            (("--nr=SYS_raed",), "the table has no syscall 'SYS_raed'; the nearest name is 'read'"),
-                            (("--nr=READ",), "the table has no syscall 'READ'; the nearest name is 'read'"),
-                            (("--arch=sh", "--nr=read"), "there is no table of --arch sh: give the number of 'read'"),
-                            (("--arch=s390x", "--nr=1"), "SCMP_ARCH_S390X is big-endian")):
-            self.is_refused(says, "decide", *words, asks)
-
-    def test_a_listing_names_them(self):
-        data = load(4) + jeq(I386, 0, 3) + load(0) + jeq(102, 0, 1) + ret(EPERM) + insn(0x06, ALLOW)
-        self.assertIn("// socketcall of i386: to 4, else 5", self.run_tool("list", self.file("f.bpf", data))[1])
-        self.assertIn("// preadv: to", self.run_tool("list", self.file("n.bpf", data.replace(
-            load(4) + jeq(I386, 0, 3), load(4) + jeq(X86_64, 0, 3)).replace(jeq(102, 0, 1), jeq(295, 0, 1))))[1])

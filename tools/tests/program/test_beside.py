@@ -8,8 +8,6 @@ from support.common import (ALLOW, ENOSYS, EPERM, KILL_PROCESS, LOG, X32, X86_64
 from support.confined import NEWEST, OLDEST, Confined, here
 
 READ, WRITE, CLONE = 0, 1, 56
-# The options of each relation, and what is printed if it holds.
-RELATIONS = {"": "same", "--no-more": "no more", "--no-less": "no less", "--disposition": "same disposition"}
 
 
 def clone_of(flags, answer=EPERM, otherwise=ALLOW):
@@ -81,14 +79,6 @@ class Tools(Case):
             for first, second in ((old, new), (new, old)):
                 self.assertEqual(self.told("compare-profiles", word, profiles[first], profiles[second])[0],
                                  self.told("diff", word, first, second)[0])
-
-    def test_filters_beside_themselves(self):
-        """Splits don't decide whether two free words are equal, but a stack answers as itself."""
-        equal = load(16) + insn(0x07, 0) + load(24) + insn(0x1D, 0, 0, 1) + ret(ALLOW) + ret(EPERM)
-        paths = [self.file(f"{at}.bpf", item) for at, item in enumerate((equal, filter_of([READ, WRITE]), equal))]
-        for option, holds in RELATIONS.items():
-            self.assertEqual(self.told("diff", *option.split(), "--splits=0", paths[0], paths[2]), (0, [holds]))
-        self.assertEqual(self.told("compare", *paths[:2], "--beside", paths[2], paths[1]), (0, ["same"]))
 
     def test_more_splits_and_steps(self):
         """Two halves are added, in one order and in the other."""
