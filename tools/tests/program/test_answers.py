@@ -237,6 +237,7 @@ class Paths(OnProgram):
         self.takes(filter_, [], MADE, " ".join(map(str, range(4096))))
         filter_ = (insn(0x15, 0, 1, 1) + insn(0x06, 0)) * 2047 + insn(0x00, 9) + insn(0x06, 0x00050001)
         self.takes(filter_, [], FAILS, " ".join(map(str, [*range(0, 4095, 2), 4095])))
+        self.prints(["check"], filter_, "accepted 4096\n")
 
     def test_stacks(self):
         for filters, options, first, runs in STACKS:

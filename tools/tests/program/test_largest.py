@@ -64,13 +64,6 @@ class Largest(OnProgram):
             self.ends(["dis"], data, 0, text)
             self.ends(["asm"], text, 0, data)
 
-    def test_a_run_of_4096_steps(self):
-        data = load(0) * (MOST - 1) + ret(ALLOW)
-        self.ends(["check"], data, 0, b"accepted 4096\n")
-        self.ends(["run"], data, 0, b"ALLOW 0 steps 4096\n")
-        sums = insn(0x01, 3) + insn(0x0C, 0) * (MOST - 2) + insn(0x16, 0)
-        self.ends(["run"], sums, 0, b"KILL_THREAD %d steps 4096\n" % (3 * (MOST - 2)))
-
     def test_a_text_of_4096_lines_of_200_tokens(self):
         """Each line has an instruction with a label, empty statements, and a comment."""
         lines, data = [], b""

@@ -3,7 +3,6 @@ What is wanted follows from the runtimes' sources, as crates/scf_profile/specs/R
 seccomp(2)."""
 import json
 import random
-import unittest
 
 from support.common import part
 from support.on_parts import OnProgram, ran
@@ -24,11 +23,6 @@ def profile(*entries, architectures=("SCMP_ARCH_X86_64", "SCMP_ARCH_X86")):
 
 def condition(value, index=0, operator="EQ", **more):
     return {"index": index, "value": value, "op": f"SCMP_CMP_{operator}", **more}
-
-
-def core(*words, given):
-    """What the program prints of a bundle, and its status."""
-    return ran(words, given)
 
 
 ALLOWED = profile(entry("SCMP_ACT_ALLOW"))
@@ -95,50 +89,48 @@ OWN = (
 )
 
 
-class TestReadings(unittest.TestCase):
+class Asked(OnProgram):
+    def asks(self, given, line, *words):
+        """What a profile answers, or by which fault it is refused."""
+        self.prints(["ask", *words], given, f"{line}\n", int(line.startswith("fault")))
+
+
+class TestReadings(Asked):
     def test_each_reading(self):
         for name, (entries, wanted) in READINGS.items():
+            given = profile(*entries) + TABLE
             for reading, line in wanted.items():
                 with self.subTest(name=name, reading=reading):
-                    status = 1 if line.startswith("fault") else 0
-                    given = profile(*entries) + TABLE
-                    self.assertEqual(core("ask", "--a0=7", f"--reading={reading}", given=given),
-                                     (f"{line}\n".encode(), status))
+                    for words in ([], [EACH]):
+                        self.asks(given, line, *words, "--a0=7", f"--reading={reading}")
                     # every command that loads a profile refuses it alike
                     for command in ("compile", "answers"):
-                        printed, ended = core(command, f"--reading={reading}", given=given)
-                        self.assertEqual((ended, printed.startswith(b"fault")), (status, status == 1))
-                    self.assertEqual(core("ask", EACH, "--a0=7", f"--reading={reading}", given=given),
-                                     (f"{line}\n".encode(), status))
+                        printed, status = ran([command, f"--reading={reading}"], given)
+                        self.assertEqual((status, printed.startswith(b"fault")), (line.startswith("fault"),) * 2)
 
     def test_own_architecture(self):
         for words, given, wanted in OWN:
             for reading, line in wanted.items():
                 with self.subTest(words=words, reading=reading, line=line):
-                    self.assertEqual(core("ask", *words, f"--reading={reading}", given=given),
-                                     (f"{line}\n".encode(), int(line.startswith("fault"))))
-
-    def test_strict_without_the_option(self):
-        given = profile(*READINGS["twice"][0]) + TABLE
-        self.assertEqual(core("ask", given=given), core("ask", "--reading=strict", given=given))
+                    self.asks(given, line, *words, f"--reading={reading}")
 
     def test_compare(self):
-        """The filter that a reading compiles is `same` by it, and not by another."""
+        """The filter that a reading compiles is `same` by it, and not by another, or without the option."""
         twice = profile(*READINGS["twice"][0]) + TABLE
-        compiled, status = core("compile", "--reading=runc", given=twice)
+        compiled, status = ran(["compile", "--reading=runc"], twice)
         self.assertEqual(status, 0)
-        given = part("filter", compiled) + twice
-        self.assertEqual(core("compare", "--reading=runc", given=given), (b"same\nother SCMP_ARCH_X86\n", 0))
-        self.assertEqual(core("compare", EACH, "--reading=crun", given=given), (b"same\nother SCMP_ARCH_X86\n", 0))
-        self.assertEqual(core("compare", given=given), (b"fault profile Conflict number 0 first 0 second 1\n", 1))
+        conflict = "fault profile Conflict number 0 first 0 second 1\n"
+        self.print_each([(words, part("filter", compiled) + twice, text, status) for words, text, status in (
+            ("--reading=runc", "same\nother SCMP_ARCH_X86\n", 0),
+            (f"{EACH} --reading=crun", "same\nother SCMP_ARCH_X86\n", 0), ("", conflict, 1),
+            ("--reading=strict", conflict, 1))], "compare")
 
     def test_unknown_reading(self):
         for command in ("compile", "ask", "compare", "answers"):
             for reading in ("", "Runc", "runc ", "youki"):
-                with self.subTest(command=command, reading=reading):
-                    self.assertEqual(core(command, f"--reading={reading}", given=b""), (b"fault command Reading\n", 2))
-        # it is tested before the numbers, and before any input is read
-        self.assertEqual(core("ask", "--reading=x", "--nr=x", given=b"x"), (b"fault command Reading\n", 2))
+                self.refuses([command, f"--reading={reading}"], "fault command Reading\n")
+        # it is tested before the numbers
+        self.refuses(["ask", "--reading=x", "--nr=x"], "fault command Reading\n")
 
 
 # By an action and its errno, as JSON, in a sandbox's reading: what `ask` prints of the answer, or the fault.
@@ -149,62 +141,49 @@ WITH_ERRNO = {
     ("ERRNO", "65536"): "ErrnoRange", ("ALLOW", "3"): "Errno", ("ALLOW", "null"): "ALLOW 0",
     ("KILL_PROCESS", "0"): "Errno", ("LOG", '"EPERM"'): "Kind",
 }
-DATA = ("TRAP", "ERRNO", "TRACE")
-ACTIONS = {"TRAP": 0x30000, "ERRNO": 0x50000, "TRACE": 0x7FF00000, "LOG": 0x7FFC0000, "ALLOW": 0x7FFF0000}
+DATA, SANDBOX = ("TRAP", "ERRNO", "TRACE"), "--reading=sandbox"
 
 
-class TestTrapData(unittest.TestCase):
+class TestTrapData(Asked):
     def test_each_errno(self):
         """Beside an entry's action, and beside the default's."""
         for (action, errno), wanted in WITH_ERRNO.items():
-            texts = {"entry 0": '{"defaultAction": "SCMP_ACT_LOG", "syscalls": [{"names": ["read"], '
-                                f'"action": "SCMP_ACT_{action}", "errnoRet": {errno}}}]}}',
-                     "default": f'{{"defaultAction": "SCMP_ACT_{action}", "defaultErrnoRet": {errno}}}'}
-            for where, text in texts.items():
-                fault = f"fault profile {wanted}" + (f" {where}" if where != "default" else "")
-                line, status = (f"{wanted} {where}", 0) if " " in wanted else (fault, 1)
-                given = part("profile", text.encode()) + TABLE
+            for where, text in (("default", f'{{"defaultAction": "SCMP_ACT_{action}", "defaultErrnoRet": {errno}}}'),
+                                ("entry 0", '{"defaultAction": "SCMP_ACT_LOG", "syscalls": [{"names": ["read"], '
+                                            f'"action": "SCMP_ACT_{action}", "errnoRet": {errno}}}]}}')):
+                given, at = part("profile", text.encode()) + TABLE, "" if where == "default" else f" {where}"
+                line = f"{wanted} {where}" if " " in wanted else f"fault profile {wanted}{at}"
                 with self.subTest(text):
-                    for words in ((), (EACH,)):
-                        self.assertEqual(core("ask", *words, "--reading=sandbox", given=given),
-                                         (f"{line}\n".encode(), status))
+                    for words in ([], [EACH]):
+                        self.asks(given, line, *words, SANDBOX)
                     for reading in ("strict", "crun") if action == "TRAP" and errno.isdecimal() else ():
-                        fault = f"fault profile Errno{'' if where == 'default' else f' {where}'}\n"
-                        self.assertEqual(core("ask", f"--reading={reading}", given=given), (fault.encode(), 1))
+                        self.asks(given, f"fault profile Errno{at}", f"--reading={reading}")
 
     def test_as_strict_in_all_else(self):
         for name, (entries, wanted) in READINGS.items():
             with self.subTest(name):
-                given = profile(*entries) + TABLE
-                self.assertEqual(core("ask", "--a0=7", "--reading=sandbox", given=given),
-                                 (f"{wanted['strict']}\n".encode(), 1))
-        given = profile(architectures=["SCMP_ARCH_X86"]) + TABLE
-        self.assertEqual(core("ask", "--reading=sandbox", given=given), (b"fault profile NoX8664\n", 1))
+                self.asks(profile(*entries) + TABLE, wanted["strict"], "--a0=7", SANDBOX)
+        self.asks(profile(architectures=["SCMP_ARCH_X86"]) + TABLE, "fault profile NoX8664", SANDBOX)
 
     def test_drawn(self):
         """The filter that is compiled answers with the data, and is `same`; with other data it isn't."""
+        def given(answers, change=0):
+            return profile(*({"names": [f"call{number}"], "action": f"SCMP_ACT_{action}", **(
+                {"errnoRet": data ^ change * (action == "TRAP")} if action in DATA else {})}
+                for number, (action, data) in enumerate(answers)), architectures=[]) + part(
+                    "table", "".join(f"call{number} {number}\n" for number in range(len(answers))).encode())
+
         for seed in range(12):
             drawn = random.Random(f"trap {seed}")
-            words = {number: ACTIONS[action] | (drawn.choice((0, 1, 3, 38, 65535)) if action in DATA else 0)
-                     for number, action in ((number, drawn.choice(sorted(ACTIONS))) for number in range(8))}
-            entries = [{"names": [f"call{number}"], "action": f"SCMP_ACT_{action}",
-                        **({"errnoRet": word & 0xFFFF} if action in DATA else {})}
-                       for number, word in words.items() for action in ACTIONS if ACTIONS[action] == word & 0xFFFF0000]
-            table = part("table", "".join(f"call{number} {number}\n" for number in words).encode())
-            given = profile(*entries, architectures=[]) + table
-            compiled, status = core("compile", "--reading=sandbox", given=given)
+            answers = [(action, drawn.choice((0, 1, 3, 38, 65535)) if action in DATA else 0)
+                       for action in ("TRAP", *drawn.choices((*DATA, "LOG", "ALLOW"), k=7))]
+            compiled, status = ran(["compile", SANDBOX], given(answers))
             self.assertEqual(status, 0)
-            for number, word in words.items():
-                action = next(action for action in ACTIONS if ACTIONS[action] == word & 0xFFFF0000)
-                decided, _ = core("decide", f"--nr={number}", given=part("filter", compiled))
-                self.assertEqual(decided, f"{action} {word & 0xFFFF}\n".encode())
-            compare = part("filter", compiled) + given
-            self.assertEqual(core("compare", "--reading=sandbox", given=compare), (b"same\n", 0))
-            changed = [{**one, "errnoRet": one["errnoRet"] ^ 1} if one["action"] == "SCMP_ACT_TRAP" else one
-                       for one in entries]
-            if changed != entries:
-                compare = part("filter", compiled) + profile(*changed, architectures=[]) + table
-                self.assertEqual(core("compare", "--reading=sandbox", given=compare)[1], 1)
+            filters = part("filter", compiled)
+            for number, (action, data) in enumerate(answers):
+                self.prints(["decide", f"--nr={number}"], filters, f"{action} {data}\n")
+            self.prints(["compare", SANDBOX], filters + given(answers), "same\n")
+            self.assertEqual(ran(["compare", SANDBOX], filters + given(answers, 1))[1], 1)
 
 
 PARTS = "fault bundle Parts\n"
