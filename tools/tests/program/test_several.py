@@ -1,7 +1,6 @@
 """All architectures of a profile: `scf compare --architectures` and `scf ask --architectures` beside a second reading,
 and what the tools say of each."""
 import collections
-import functools
 import json
 import os
 import random
@@ -13,7 +12,6 @@ from support.oci import condition
 from support.on_parts import ran
 from support.seccomp_library import NEEDED, Conflict, Library
 from support.stand_in import StandIn, unpacked
-from repository.test_library import OUT, RELATIONS, python_module
 from scftools.model import bundles, tables
 from scftools.model.architectures import JUDGED
 from scftools.model.calls import Call
@@ -22,10 +20,8 @@ from scftools.forms import runtimes
 from scftools.forms.filters import Filter
 from scfhost import verify
 
-# How many profiles are drawn to be held against libscf, and against the program; and how many records are tried of a
-# syscall that has conditions.
-PROFILES, BY_PROGRAM, RECORDS = int(os.environ.get("SCF_SEVERAL_PROFILES", "1000")), 60, 12
-IN_PROCESS = unittest.skipUnless(os.path.exists(os.path.join(OUT, "libscf.so.0")), "libscf isn't built: library/build")
+# How many profiles are drawn, and how many records are tried of a syscall that has conditions.
+PROFILES, RECORDS = int(os.environ.get("SCF_SEVERAL_PROFILES", "200")), 12
 ALLOW = 0x7FFF0000
 X86_64, I386, X32 = 0xC000003E, 0x40000003, 0x40000000
 NAMED = ["SCMP_ARCH_X86_64", "SCMP_ARCH_X86", "SCMP_ARCH_X32"]
@@ -42,11 +38,19 @@ def answer_of(program, arch, number, arguments):
     return MACHINE.answer(program, judged.record_of(number, arch, 0, arguments))
 
 
-class ByProgram:
-    """What scf says of a profile with its tables, by a process for each question."""
+# By scf's relation: its option, what scf prints where it holds and where it fails, and whether two answers have it.
+RELATIONS = [(option, *row) for option, row in judged.RELATIONS.items()]
+# The instructions of a filter that computes nothing. scf decides each question of one without masks.
+PLAIN = {0x20, 0x05, 0x15, 0x25, 0x35, 0x06}
+# Records of no architecture.
+FOREIGN = [(0x80000016, 3, [0] * 6), (0, 0, [0] * 6)]
+
+
+class Scf:
+    """What scf says of a profile with its tables."""
 
     def __init__(self, reading):
-        self.reading, self.order = reading, list(reading.rules)
+        self.reading = reading
         self.parts = [("profile", several.text(reading.profile)), *several.tables_of(reading.given)]
 
     def printed(self, command, *words, parts=()):
@@ -59,80 +63,37 @@ class ByProgram:
         return self.printed("ask", *Call(number, arch, 0, tuple(arguments)).words())
 
     def compare(self, data, relation=0):
-        return self.printed("compare", *RELATIONS[relation], parts=[("filter", data)])
-
-
-library = functools.cache(python_module)
-
-
-class ByLibrary:
-    """The same by libscf, in this process; in the program's words."""
-
-    NUMBERS = {"Conflict": ("number", "first", "second"), "NotListed": ("table",)}
-
-    def __init__(self, reading):
-        self.reading, self.scf = reading, library()
-        # (it goes by the tables as they are handed in)
-        self.order = [name for name in reading.given if name in reading.rules]
-        self.profile = self.scf.Profile(several.text(reading.profile))
-        self.tables = [self.scf.Table(self.scf.Architecture[name.removeprefix("SCMP_ARCH_")], table)
-                       for name, (_, table) in zip(reading.given, several.tables_of(reading.given))]
-
-    def printed(self, text_of, function, *given):
-        try:
-            return text_of(function(*given))
-        except self.scf.Refused as refused:
-            kind = refused.kind.name.title().replace("_", "")
-            numbers = (f" {name} {number}" for name, number in zip(self.NUMBERS[kind], refused.numbers))
-            return f"fault {refused.source.name.lower()} {kind}{''.join(numbers)}\n".encode()
-
-    def compile(self):
-        return self.printed(bytes, self.scf.compile, self.profile, self.tables)
-
-    def ask(self, arch, number, arguments):
-        def text_of(given):
-            entry = "" if given.entry is None else f" {given.entry}"
-            return f"{MACHINE.printed(given.answer)} {given.reason.name.lower()}{entry}\n".encode()
-
-        call = self.scf.Call(number, tuple(arguments), arch)
-        return self.printed(text_of, self.scf.ask, self.profile, self.tables, call)
-
-    def compare(self, data, relation=0):
-        return self.printed(lambda comparison: comparison.report.encode(), self.scf.compare, self.scf.Filters([data]),
-                            self.profile, self.tables, self.scf.EACH_ARCHITECTURE, self.scf.Relation(relation))
-
-
-def draw(seed):
-    random_of = random.Random(f"several {seed}")
-    return several.draw(random_of), random_of
-
-
-# By scf's relation: what it prints where it holds and where it fails, and whether two answers have it.
-VERDICTS = tuple(judged.RELATIONS.values())
-# The instructions of a filter that computes nothing. scf decides each question of one without masks.
-PLAIN = {0x20, 0x05, 0x15, 0x25, 0x35, 0x06}
-# Records of no architecture.
-FOREIGN = [(0x80000016, 3, [0] * 6), (0, 0, [0] * 6)]
+        return self.printed("compare", *RELATIONS[relation][0].split(), parts=[("filter", data)])
 
 
 class SecondReading(unittest.TestCase):
-    """Drawn profiles and filters: each answer of scf is that of the second reading, over the records that it tries."""
+    """Drawn profiles and filters: scf's answers are those of the second reading, over the records that it tries. That
+    libscf answers so, too, follows by repository/test_library."""
 
-    def hold(self, way, count):
-        """What was held of so many draws, counted."""
+    def test_each(self):
+        """A draw that is accepted is held to its answers and to comparisons, and one that is refused to its fault."""
         self.counts = collections.Counter()
-        for seed in range(count):
-            reading, self.random_of = draw(seed)
-            scf, fault, self.about = way(reading), reading.fault(), (seed, reading.given, reading.profile)
+        for seed in range(PROFILES):
+            self.random_of = random.Random(f"several {seed}")
+            reading = several.draw(self.random_of)
+            scf, fault, self.about = Scf(reading), reading.fault(), (seed, reading.given, reading.profile)
             self.counts["accepted" if fault is None else fault.split()[0]] += 1
             if fault is None:
                 data = scf.compile()
                 self.hold_answers(scf, data)
-                self.hold_comparisons(scf, way, data)
+                self.hold_comparisons(scf, data)
             else:
                 for printed in (scf.compile(), scf.ask(*FOREIGN[0]), scf.compare(ret(ALLOW))):
                     self.assertEqual(printed, f"fault profile {fault}\n".encode(), self.about)
-        return self.counts
+        self.assertGreater(self.counts["accepted"], PROFILES // 2)
+        self.assertGreater(min(self.counts["Conflict"], self.counts["NotListed"]), PROFILES // 40)
+        for name in several.ARCHITECTURES:
+            alone = self.counts[name, True, "alone"] + self.counts[name, False, "alone"]
+            self.assertGreater(alone, PROFILES // 100, name)
+        for words in ("any", *(row[1] for row in RELATIONS)):
+            self.assertGreater(min(self.counts[words, is_met] for is_met in (True, False)), PROFILES // 80, words)
+        # what scf finds, the second reading mostly finds by itself
+        self.assertGreater(self.counts["fails", True], 4 * self.counts["fails", False])
 
     def hold_answers(self, scf, data):
         """The answers of the profile, and of the filter that scf compiles; also to records of architectures without a
@@ -148,7 +109,7 @@ class SecondReading(unittest.TestCase):
             answer, why = scf.reading.answer(*record)
             self.assertEqual(scf.ask(*record).decode(), f"{MACHINE.printed(answer)} {why}\n", (self.about, record))
 
-    def hold_comparisons(self, scf, way, data):
+    def hold_comparisons(self, scf, data):
         """scf's own filter is as the profile. Of two with an instruction changed, one may differ in one architecture
         alone, which alone runs the instruction."""
         reading, random_of = scf.reading, self.random_of
@@ -161,21 +122,21 @@ class SecondReading(unittest.TestCase):
         if places:
             wrong, relation = several.change_filter(random_of, data, places), random_of.choice((0, 0, 1, 2, 3))
             holds = self.holds(scf, wrong, relation, (name,))
-            self.counts.update([(name, holds), (VERDICTS[relation][0], holds)])
+            self.counts.update([(name, holds), (RELATIONS[relation][1], holds)])
             others = [given_name for given_name in reading.given if given_name != name]
             if others and reading.profile.get("architectures"):
-                self.assertTrue(self.holds(way(several.Reading(reading.profile, others)), wrong, relation, ()))
+                self.assertTrue(self.holds(Scf(several.Reading(reading.profile, others)), wrong, relation, ()))
                 self.counts[name, holds, "alone"] += 1
 
     def holds(self, scf, data, relation, names):
         """Whether scf says that a filter has a relation to the profile, None if it doesn't decide it. A record that
         shows that it hasn't can only be of these architectures, in the order in which they are compared."""
-        holds_word, fails_word, has = VERDICTS[relation]
+        _, holds_word, fails_word, has = RELATIONS[relation]
         reading, program = scf.reading, unpacked(data)
         verdict, *lines = scf.compare(data, relation).decode().split("\n")
         about = self.about, data.hex(), relation, verdict, *lines
         words = sorted({insn[3] for insn in program if insn[0] & 7 == 5 and insn[0] != 5})
-        order = [name for name in scf.order if name in names]
+        order = [name for name in reading.rules if name in names]
         failing = next((name for name in order if not all(
             has(answer_of(program, *record), reading.answer(*record)[0])
             for record in reading.records(name, self.random_of, RECORDS, words))), None)
@@ -197,25 +158,6 @@ class SecondReading(unittest.TestCase):
             self.assertEqual((verdict, failing), (holds_word, None), about)
         self.assertEqual(lines, [*reading.notes(), ""], about)
         return verdict == holds_word
-
-    def test_by_the_program(self):
-        counts = self.hold(ByProgram, BY_PROGRAM)
-        self.assertGreater(counts["accepted"], BY_PROGRAM // 2)
-        self.assertGreater(counts["fails", True], BY_PROGRAM // 4)
-
-    @IN_PROCESS
-    def test_by_the_library(self):
-        counts = self.hold(ByLibrary, PROFILES)
-        self.assertGreater(counts["accepted"], PROFILES // 2)
-        self.assertGreater(min(counts["Conflict"], counts["NotListed"]), PROFILES // 40)
-        for name in several.ARCHITECTURES:
-            least = min(counts[name, is_alone, "alone"] for is_alone in (True, False))
-            self.assertGreater(least, PROFILES // 120, name)
-        for words in VERDICTS:
-            self.assertGreater(min(counts[words[0], is_met] for is_met in (True, False)), PROFILES // 50, words)
-        self.assertGreater(min(counts["any", is_met] for is_met in (True, False)), PROFILES // 10)
-        # what scf finds, the second reading mostly finds by itself
-        self.assertGreater(counts["fails", True], 4 * counts["fails", False])
 
 
 WORKED = """ld 4; jeq 0xc000003e 2 0; jeq 0x40000003 11 0; ret 0x80000000; ld 0; jge 0x40000000 6 0; jeq 0x0 12 0;
