@@ -25,36 +25,25 @@ ONE_RECORD = a_filter("""ld [0]; jeq #41, 0, no; ld [16]; jeq #2, 0, no; ld [20]
     ret #0x50026; no: ret #0x7fff0000""")
 # One call is answered behind more than 64 steps, one by an even product of two numbers, which takes a split, and one by
 # an errno; the others are allowed. Their numbers are 1, 2 and 3, and 7, 6 and 5.
-MIXED = a_filter("""ld [0]; jeq #1, slow, 0; jeq #2, even, 0; jeq #3, other, 0
+MIXED = a_filter(f"""ld [0]; jeq #1, slow, 0; jeq #2, even, 0; jeq #3, other, 0
     jeq #5, other, 0; jeq #6, even, 0; jeq #7, slow, allow
     even: ld [16]; tax; add #1; mul x; jset #1, 0, allow; ret #0; other: ret #0x50001
-    slow: tax; tax; tax; tax; tax; tax; tax; tax; tax; tax; tax; tax; tax; tax; tax; tax
-    tax; tax; tax; tax; tax; tax; tax; tax; tax; tax; tax; tax; tax; tax; tax; tax
-    tax; tax; tax; tax; tax; tax; tax; tax; tax; tax; tax; tax; tax; tax; tax; tax
-    tax; tax; tax; tax; tax; tax; tax; tax; tax; tax; tax; tax; tax; tax; tax; tax
-    allow: ret #0x7fff0000""")
+    slow: {"tax; " * 64} allow: ret #0x7fff0000""")
 # Options and parts, what is printed, and the status. The order of names and numbers is shown in test_profiles.
 ROWS = (
     ("", [THREE, ERRNOS, OTHER_ENDS],
-     "differs\n"
-     "0 read differs args 0x.. filter ERRNO 9 profile ERRNO 1\n"
+     "differs\n0 read differs args 0x.. filter ERRNO 9 profile ERRNO 1\n"
      "3 close differs args 0x.. filter KILL_THREAD 0 profile ERRNO 3\n", 1),
     ("", [ALLOW, ERRNOS, THREE],
-     "differs\n"
-     "0 read differs args 0x.. filter ALLOW 0 profile ERRNO 1\n"
+     "differs\n0 read differs args 0x.. filter ALLOW 0 profile ERRNO 1\n"
      "1 write differs args 0x.. filter ALLOW 0 profile ERRNO 2\n"
      "3 close differs args 0x.. filter ALLOW 0 profile ERRNO 3\n", 1),
     # A table without names of the profile, and what is left out of that behind the lines of the calls.
     ("", [OTHER_ENDS, ERRNOS, a_table("other 100")], "same\nskipped read\nskipped write\nskipped close\n", 0),
-    ("",
-     [ALLOW,
-      a_profile('''{"defaultAction":"SCMP_ACT_ERRNO","architectures":["SCMP_ARCH_X86","SCMP_ARCH_X86_64",
-                "SCMP_ARCH_X32"],"syscalls":[{"names":["gone","write"],"action":"SCMP_ACT_ALLOW"}]}'''),
-      a_table(READ_WRITE_TABLE)],
-     "differs\n"
-     "0 read differs args 0x.. filter ALLOW 0 profile ERRNO 1\n"
-     "skipped gone\n"
-     "other SCMP_ARCH_X86\n"
+    ("", [ALLOW, a_profile('''{"defaultAction":"SCMP_ACT_ERRNO","architectures":["SCMP_ARCH_X86","SCMP_ARCH_X86_64",
+        "SCMP_ARCH_X32"],"syscalls":[{"names":["gone","write"],"action":"SCMP_ACT_ALLOW"}]}'''),
+          a_table(READ_WRITE_TABLE)],
+     "differs\n0 read differs args 0x.. filter ALLOW 0 profile ERRNO 1\nskipped gone\nother SCMP_ARCH_X86\n"
      "other SCMP_ARCH_X32\n", 1),
     # The verdict that speaks for all: a difference goes first, and then the least number.
     ("--limit 64", [MIXED, ALL, a_table("a 0\nd 4")], "same\n", 0),
@@ -77,14 +66,11 @@ ROWS = (
     ("--limit 64", [MIXED, ALL, a_table("c 5\nb 6\na 7")],
      "differs\n5 c differs args 0x.. filter ERRNO 1 profile ALLOW 0\n7 a unfinished\n", 1),
     # Each call has the whole limit, which is the effort of the stack.
-    ("--limit 56",
-     [NATIVE, ALL, a_table("a 0\nb 1\nc 2\nd 3\ne 4\nf 5\ng 6\nh 7\ni 8\nj 9\nk 10\nl 11\nm 12\nn 13\no 14\np 15")],
-     "same\n", 0),
+    ("--limit 56", [NATIVE, ALL, a_table("".join(f"c{number} {number}\n" for number in range(16)))], "same\n", 0),
     # What one record alone shows.
     ("", [ONE_RECORD, ALL, a_table("socket 41\nread 0")],
-     "differs\n"
-     "41 socket differs args 0x2 0x80000 0x0 0xffffffffffffffff 0xabc 0x100000010 filter ERRNO 38 profile ALLOW 0\n",
-     1),
+     "differs\n41 socket differs args 0x2 0x80000 0x0 0xffffffffffffffff 0xabc 0x100000010 filter ERRNO 38 "
+     "profile ALLOW 0\n", 1),
 )
 # Answers ERRNO 38 to each number above the newest that is known.
 STUB = a_filter("ld [4]; jeq #0xc000003e, 0, 3; ld [0]; jge #451, 0, 1; ret #0x50026; ret #0x7fff0000")
