@@ -14,7 +14,7 @@ from collections.abc import Callable, Iterable, Iterator, Sequence
 from ..base import program
 from ..base.values import Any
 from . import architectures
-from .answers import X86_64, Answer
+from .answers import Answer
 from .architectures import JUDGED, NATIVE, NUMBERS, PREFIX, X32
 from .entries import HOLDS, Condition
 from .profiles import MAX_RULES, Refused
@@ -84,9 +84,9 @@ class Library:
     def knows(self, name: str) -> bool:
         return self.number_of(name) is not None
 
-    def name_of(self, number: int) -> str | None:
-        """The name of an x86-64 syscall's number."""
-        name_in_library = self._name_of(X86_64, number)
+    def name_of(self, number: int, architecture: str = NATIVE) -> str | None:
+        """The name of a number on an architecture."""
+        name_in_library = self._name_of(TOKENS[architecture], number)
         if not name_in_library:
             return None
         name = self._string_at(name_in_library).decode("utf-8", "surrogateescape")

@@ -1,20 +1,17 @@
 """tools/call-table, and the tables that come with scf."""
-import ctypes
 import ctypes.util
 import os
 import unittest
 
-from support.common import I386, TABLE, TOP, Case, limited, sample, text_of, tool
-from scftools.model import architectures, tables
+from support.common import TABLE, TOP, X32, Case, limited, rows, sample, text_of, tool
+from scftools.model import architectures, libseccomp, tables
 
 HEADER = sample("unistd_64.h")
 
 
 # Rows of arch/x86/entry/syscalls/syscall_64.tbl, as the kernel's source has them.
 SOURCE = sample("syscall_64.tbl")
-LIMIT, X32 = 4194304, 0x40000000
-# AUDIT_ARCH_AARCH64 and AUDIT_ARCH_ARM (linux/audit.h), which libseccomp takes, too; its x32 is a number of its own.
-AARCH64, ARM = 0xC00000B7, 0x40000028
+LIMIT = 4194304
 HEADERS = "/usr/include/x86_64-linux-gnu/asm"
 # As Debian's linux-libc-dev 6.12 has asm/unistd_x32.h, and asm/unistd-eabi.h and asm/unistd.h of arm.
 OF_X32 = """#define __X32_SYSCALL_BIT\t0x40000000
@@ -37,11 +34,6 @@ OF_ARM = """#define __NR_OABI_SYSCALL_BASE\t0x900000
 #define __ARM_NR_breakpoint\t\t(__ARM_NR_BASE+1)
 #define __ARM_NR_set_tls\t\t(__ARM_NR_BASE+5)
 """
-
-
-def rows(path):
-    """The names and numbers of a table."""
-    return [line.split() for line in text_of(path).splitlines() if line[0] != "#"]
 
 
 class CallTable(Case):
@@ -180,22 +172,17 @@ class OtherTables(Case):
 
     @unittest.skipUnless(ctypes.util.find_library("seccomp"), "there is no libseccomp here")
     def test_libseccomp_says_the_same(self):
-        """What scmp_sys_resolver prints, without a process for each; only what is newer than the other stands in one
-        alone."""
-        library = ctypes.CDLL("libseccomp.so.2")
-        resolve = library.seccomp_syscall_resolve_num_arch
-        resolve.restype, resolve.argtypes = ctypes.c_char_p, [ctypes.c_uint32, ctypes.c_int]
-        number_of = library.seccomp_syscall_resolve_name_arch
-        number_of.restype, number_of.argtypes = ctypes.c_int, [ctypes.c_uint32, ctypes.c_char_p]
-        # SCMP_ARCH_X32 is EM_X86_64 and __AUDIT_ARCH_LE (seccomp.h); mips counts from a number of its own
-        for name, token, least, base in (
-                ("X86", I386, 430, 0), ("X32", 0x4000003E, 350, 0), ("AARCH64", AARCH64, 300, 0), ("ARM", ARM, 400, 0),
-                ("RISCV64", 0xC00000F3, 300, 0), ("PPC64LE", 0xC0000015, 380, 0), ("MIPSEL", 0x40000008, 400, 4000),
-                ("MIPSEL64", 0xC0000008, 340, 5000), ("MIPSEL64N32", 0xE0000008, 360, 6000)):
-            table, bit = tables.architecture_table(f"SCMP_ARCH_{name}"), X32 if name == "X32" else 0
-            its = {number: resolve(token, number | bit)
+        """What scmp_sys_resolver prints; only what is newer than the other stands in one alone."""
+        library = libseccomp.Library()
+        # mips counts from a number of its own
+        for name, least, base in (("X86", 430, 0), ("X32", 350, 0), ("AARCH64", 300, 0), ("ARM", 400, 0),
+                                  ("RISCV64", 300, 0), ("PPC64LE", 380, 0), ("MIPSEL", 400, 4000),
+                                  ("MIPSEL64", 340, 5000), ("MIPSEL64N32", 360, 6000)):
+            oci, bit = f"SCMP_ARCH_{name}", X32 if name == "X32" else 0
+            table = tables.architecture_table(oci)
+            its = {number: library.name_of(number | bit, oci)
                    for number in (*range(base, base + 1000), *range(0xF0000, 0xF0010))}
-            its = {number: each.decode() for number, each in its.items() if each is not None}
+            its = {number: each for number, each in its.items() if each is not None}
             self.assertGreater(len(its), least, name)
             # all count the newest ones alike, below x32's own from 512 on
             highest_known, newest = (max(number for number in numbers if number < base + 512)
@@ -204,8 +191,8 @@ class OtherTables(Case):
                               and not newest < number < base + 512}, {}, name)
             alone = {each for each in table.names() if table.number_of(each) <= highest_known} - set(its.values())
             self.assertEqual(alone - self.LACKING.get(name, set()), set(), name)
-            theirs = {each: number_of(token, each.encode()) for each in table.names()}
             # numbers below 0 are libseccomp's own, for names that it knows of other architectures
+            theirs = {each: library.number_of(each, oci) for each in table.names() if library.knows(each)}
             self.assertEqual({each: number for each, number in theirs.items()
                               if number >= 0 and number != table.number_of(each) | bit}, {}, name)
 

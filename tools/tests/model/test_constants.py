@@ -11,15 +11,11 @@ import socket
 import sys
 import unittest
 
-from support.common import ALLOW, EPERM, LOADER, TABLE, TOP, Case, for_developers, jeq, load, ret, text_of
+from support.common import ALLOW, EPERM, LOADER, TABLE, TOP, Case, for_developers, jeq, load, ret, rows, text_of
 from scftools.model import constants
 from scftools.forms import strace
 
 ALL_ONES = (1 << 64) - 1
-
-
-def rows(path):
-    return [line.split() for line in text_of(path).splitlines() if line[0] != "#"]
 
 
 @unittest.skipUnless(shutil.which("cc"), "there is no C compiler here")

@@ -165,6 +165,11 @@ def text_of(*path):
     return bytes_of(*path).decode("utf-8", "replace")
 
 
+def rows(path):
+    """The words of each line of a table."""
+    return [line.split() for line in text_of(path).splitlines() if line[0] != "#"]
+
+
 def sample(name):
     """A text that tests have as a file in its own language: a program in C, a header, a table."""
     return text_of(TOP, "tools", "tests", "samples", name)
