@@ -1,9 +1,9 @@
 """How often a tool starts scf where all is well."""
 import itertools
-import json
 import os
 from unittest import mock
 
+from support import oci
 from support.common import (ALLOW, EPERM, I386, PROGRAM, X86_64, Case, bytes_of, filter_of, insn, jeq, jge, load,
                             profile_of, ret, stub, text_of)
 from support.confined import Confined, here
@@ -13,6 +13,11 @@ from scftools.ask import client
 # What `lint` finds nothing of.
 NAMES = ("read write exit exit_group rt_sigaction rt_sigreturn nanosleep restart_syscall mmap munmap faccessat "
          "faccessat2 mkdir mkdirat unlinkat").split()
+
+
+def native(*names):
+    """A profile that allows some syscalls of x86-64."""
+    return oci.profile(oci.entry(*names), architectures=[oci.NATIVE])
 
 
 class Counting(Case):
@@ -26,12 +31,10 @@ class Counting(Case):
         self.assertEqual((actual, err), (status, said), out)
         return len(text_of(log).splitlines())
 
-    def compiled(self, text):
+    def compiled(self, profile):
         """The filter of a profile, and the profile's file."""
-        path = self.file("made.json", text)
-        with open(self.file("made.bpf", b""), "wb") as out:
-            self.assertEqual(self.run_tool("compile", path, stdout=out)[0], 0)
-        return bytes_of(out.name), path
+        path = self.file("made.json", profile)
+        return bytes_of(self.filter_file(path)), path
 
 
 class Starts(Counting):
@@ -62,9 +65,7 @@ class Starts(Counting):
 
     def test_profile_of_several_architectures(self):
         """All of them are proved at once; once more without one of which a call, answered again, shows otherwise."""
-        several = {"defaultAction": "SCMP_ACT_ERRNO", "architectures": [f"SCMP_ARCH_{name}" for name in (
-            "X86_64", "X86", "X32")], "syscalls": [{"names": NAMES, "action": "SCMP_ACT_ALLOW"}]}
-        data, _ = self.compiled(json.dumps(several))
+        data, _ = self.compiled(oci.profile(oci.entry(*NAMES)))
         self.assertEqual(self.starts("profile-of", self.file("f.bpf", data), said="profile-of: the profile covers "
                                      "x86-64, i386 and x32 syscalls\n"), 2)
         # (another answer to each call of i386)
@@ -75,8 +76,7 @@ class Starts(Counting):
 
     def test_profile_of_runc(self):
         """The stub is one side's with the profile, so that nothing is compared twice."""
-        data, _ = self.compiled(json.dumps({"defaultAction": "SCMP_ACT_ERRNO", "architectures": ["SCMP_ARCH_X86_64"],
-                                            "syscalls": [{"names": ["read", "openat2"], "action": "SCMP_ACT_ALLOW"}]}))
+        data, _ = self.compiled(native("read", "openat2"))
         # (runc leaves the numbers of x32 to the filter)
         behind = load(4) + jeq(X86_64, 0, 4) + load(0) + jge(0x40000000, 2, 0) + jge(438, 0, 1) + ret(0x00050026) + data
         for filter_, said in ((data, ""), (behind, "profile-of: runc answers the numbers from 438 on, above all that "
@@ -86,9 +86,7 @@ class Starts(Counting):
     def test_lint(self):
         self.assertEqual(self.starts("lint", self.file("p.json", profile_of(*NAMES))), 2)
         # the calls of each architecture are compared by themselves; by which entry ptrace is allowed, the entries say
-        listed = [f"SCMP_ARCH_{name}" for name in ("X86_64", "X86", "X32")]
-        several = {"defaultAction": "SCMP_ACT_ERRNO", "architectures": listed, "syscalls": [
-            {"names": [*NAMES, "sigreturn", "ptrace"], "action": "SCMP_ACT_ALLOW"}]}
+        several = oci.profile(oci.entry(*NAMES, "sigreturn", "ptrace"))
         self.assertEqual(self.starts("lint", self.file("p.json", several)), 2)
 
     def test_compare_profiles(self):
@@ -99,13 +97,9 @@ class Starts(Counting):
             self.assertEqual(self.starts("compare-profiles", *words, first, second), 1)
             self.assertEqual(self.starts("compare-profiles", *words, first, fewer, status=words != ["--no-more"]), 1)
 
-        def stated(name, names, architectures=("X86_64",)):
-            return self.file(name, {
-                "defaultAction": "SCMP_ACT_ERRNO", "architectures": [f"SCMP_ARCH_{each}" for each in architectures],
-                "syscalls": [{"names": names, "action": "SCMP_ACT_ALLOW"}]})
-
-        first, other, alike = stated("1", NAMES), stated("2", NAMES[::-1]), stated("3", NAMES[1:])
-        greater, listed = stated("4", [*NAMES, "futex_waitv"]), stated("5", NAMES, ("X86_64", "X86"))
+        first, other, alike, greater, listed = (self.file(f"{at}.json", profile) for at, profile in enumerate((
+            native(*NAMES), native(*NAMES[::-1]), native(*NAMES[1:]), native(*NAMES, "futex_waitv"),
+            oci.profile(oci.entry(*NAMES), architectures=[oci.NATIVE, oci.X86]))))
         self.assertEqual(self.starts("compare-profiles", "--runtime", "runc", first, other), 1)
         self.assertEqual(self.starts("compare-profiles", "--runtime", "runc", first, alike, status=1), 1)
         self.assertEqual(self.starts("compare-profiles", "--runtime", "runc", first, greater, status=1), 3)
@@ -138,9 +132,7 @@ class Starts(Counting):
     def test_compare_by_runtime(self):
         """With runc's stub as without a runtime; twice more where the filter has none, which is told by the first
         number of it."""
-        profile = {"defaultAction": "SCMP_ACT_ERRNO", "architectures": ["SCMP_ARCH_X86_64"],
-                   "syscalls": [{"names": ["read", "openat2"], "action": "SCMP_ACT_ALLOW"}]}
-        given, says = self.file("p.json", profile), (
+        given, says = self.file("p.json", native("read", "openat2")), (
             "compare: not in the profile: runc answers the numbers from 438 on, above all that the profile names, with "
             "ENOSYS\n")
         for data, status, starts in ((stub(438) + filter_of([0, 437]), 0, 1), (stub(438) + filter_of([0]), 1, 3),
@@ -164,8 +156,8 @@ class OfProcesses(Confined, Counting):
 
     @here
     def test_verify_process(self):
-        data, path = self.compiled(json.dumps({"defaultAction": "SCMP_ACT_ALLOW", "syscalls": [
-            {"names": ["mount"], "action": "SCMP_ACT_ERRNO"}]}))
+        data, path = self.compiled({"defaultAction": "SCMP_ACT_ALLOW", "syscalls": [
+            {"names": ["mount"], "action": "SCMP_ACT_ERRNO"}]})
         self.assertEqual(self.starts("verify-process", str(self.child([data]).pid), path), 2)
 
     @here
@@ -174,7 +166,6 @@ class OfProcesses(Confined, Counting):
         table = tables.read_table(None)
         numbers = (number for number in table.numbers() if number <= 334 and number != 165)
         names = [table.names_of(number)[0] for number in numbers] + ["clone3"]
-        data, path = self.compiled(json.dumps({"defaultAction": "SCMP_ACT_ERRNO", "architectures": ["SCMP_ARCH_X86_64"],
-                                               "syscalls": [{"names": names, "action": "SCMP_ACT_ALLOW"}]}))
+        data, path = self.compiled(native(*names))
         child = self.child([stub(436) + insn(0, 0) + data])
         self.assertEqual(self.starts("verify-process", "--runtime", "runc", str(child.pid), path), 2)
