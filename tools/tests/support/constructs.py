@@ -270,11 +270,6 @@ def by_joined_words(dice, low):
                                                  (XOR, value & WORD), (OR | X, 0), is_equal(0)])
 
 
-def by_no_bit_of_both(dice, low):
-    words = [low, low + 4] if dice.random() < 0.5 else [low + 4, low]
-    return condition("SCMP_CMP_EQ", 0, code=[(LD, words[0]), (TAX, 0), (LD, words[1]), (OR | X, 0), is_equal(0)])
-
-
 def by_joined_words_under_masks(dice, low):
     high_mask, low_mask = some_mask(dice), some_mask(dice)
     high, value = value_in(dice, high_mask), value_in(dice, low_mask)
@@ -537,13 +532,6 @@ def mask_split(dice, word, other_word):
              is_equal(value & second)])
 
 
-def masks_joined(dice, word, other_word):
-    masks = [some_mask(dice), some_mask(dice)]
-    value = dice.getrandbits(32) & (masks[0] | masks[1])
-    return ([(LD, word), (AND, masks[0]), (TAX, 0), (LD, word), (AND, masks[1]), (OR | X, 0), is_equal(value)],
-            [(LD, word), (AND, masks[0] | masks[1]), is_equal(value)])
-
-
 def product_by_shifts(dice, word, other_word):
     """A factor of two bits or three as a sum, or a difference, of shifted words."""
     shifts = sorted(dice.sample(range(12), dice.choice((2, 3))))
@@ -554,14 +542,6 @@ def product_by_shifts(dice, word, other_word):
         made += [(ST, 1), (LD, word), (LSH, by), (TAX, 0), (LD_M, 1), (code | X, 0)]
     value = dice.getrandbits(32) * factor if test is is_equal else dice.getrandbits(32)
     return [*made, test(value)], [(LD, word), (MUL, factor), test(value)]
-
-
-def quotient_by_orders(dice, word, other_word):
-    divisor = of_any_length(dice)
-    value = dice.randint(0, WORD // divisor)
-    return ([(LD, word), (DIV, divisor), is_equal(value)],
-            [(LD, word), (JGE, value * divisor, "then", "no"), "then",
-             (JGT, min(value * divisor + divisor - 1, WORD), "no", "yes")])
 
 
 def remainder_by_orders(dice, word, other_word):
@@ -630,13 +610,6 @@ def branch_by_product(dice, word, other_word):
             [(LD, word), (RSH, bit), (AND, 1), (MUL, by), (TAX, 0), (LD, word), (ADD | X, 0), is_equal(value)])
 
 
-def returned(dice, word, other_word):
-    """An answer that is computed of a bit."""
-    bit = dice.randrange(32)
-    return ([(LD, word), (RSH, bit), (AND, 1), (MUL, ALLOW - EPERM), (ADD, EPERM), (RET_A, 0), (JEQ, 0, "yes", "no")],
-            [(LD, word), (AND, 1 << bit), is_equal(1 << bit)])
-
-
 def steps_of_order(dice, word, other_word):
     """A product of an order that wraps, and a sum."""
     value = dice.getrandbits(32)
@@ -648,9 +621,8 @@ REWRITES = {
     "sum turned": functools.partial(turned, ADD, 0xFF, operator.add),
     "product turned": functools.partial(turned, MUL, 0xF, operator.mul),
     **{rewrite.__name__.replace("_", " "): rewrite for rewrite in (
-        tests_turned, mask_split, masks_joined, product_by_shifts, quotient_by_orders, remainder_by_orders,
-        difference_by_sum, negation_by_complement, sum_under_mask, bits_of_sum, xor_by_masks, shift_by_word,
-        branch_by_product, returned, steps_of_order)}}
+        tests_turned, mask_split, product_by_shifts, remainder_by_orders, difference_by_sum, negation_by_complement,
+        sum_under_mask, bits_of_sum, xor_by_masks, shift_by_word, branch_by_product, steps_of_order)}}
 
 
 def placed(code):
