@@ -7,7 +7,7 @@ from collections.abc import Iterator, Sequence
 from scftools.base import output, program
 from scftools.base.values import Any, dataclass, field, replace
 from scftools.model import profiles, tables
-from scftools.ask import other_abis, reasons, verdicts
+from scftools.ask import explanation, other_abis, verdicts
 from scftools.forms import engines, filters, runtimes
 from scftools.forms.filters import Filter
 from scftools.forms.profile_inputs import ProfileInput
@@ -80,7 +80,7 @@ class Request:
     def is_accepted(self) -> bool:
         """Whether scf takes the profile, or leaves it to the runtimes."""
         judged = self.profile.judged(self.table, self.scope == verdicts.NATIVE_SCOPE)
-        fault = reasons.profile_reason(self.profile.data, judged, ()).fault
+        fault = explanation.profile_reason(self.profile.data, judged, ()).fault
         return fault is None or fault.kind in LEFT_TO_RUNTIMES
 
     def judge(self, stack: Stack) -> Block:

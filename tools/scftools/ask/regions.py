@@ -18,7 +18,7 @@ from ..model.answers import DISPOSITIONS, Answer
 from ..model.architectures import JUDGED, Architecture
 from ..model.calls import ARCHITECTURE, ARGUMENTS, NUMBER, Call
 from ..model.tables import Table, Tables
-from . import client, reasons
+from . import client, explanation
 from .verdicts import FAILING_WORDS, NO_LESS, NO_MORE, SAME, UNDECIDED, UNFINISHED, NamedCall, Verdict
 
 OPEN, BESIDE = " open", " beside "
@@ -112,7 +112,7 @@ class Side:
     def by(self) -> str:
         if self.entry is not None:
             return f"by entry {self.entry}"
-        return reasons.BY["stub" if self.line.endswith(" stub") else "default"]
+        return explanation.BY["stub" if self.line.endswith(" stub") else "default"]
 
 
 class Region(Side):

@@ -13,7 +13,7 @@ from ..model import answers, bpf, constants, entries
 from ..model.entries import EQUAL, GREATEST_VALUE, LOW_HALF, MASKED, NOT_EQUAL, Object
 from ..model.tables import Tables
 from ..ask import client, verdicts
-from ..ask.reasons import Reason
+from ..ask.explanation import Reason
 from ..ask.verdicts import NATIVE_SCOPE, SAME, SCOPES
 from .events import Event
 

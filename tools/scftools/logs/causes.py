@@ -12,7 +12,7 @@ from ..model.answers import ERRNOS, Answer
 from ..model.architectures import NATIVE
 from ..model.calls import Call
 from ..model.tables import Table, Tables
-from ..ask import client, reasons, regions
+from ..ask import client, explanation, regions
 from ..ask.questions import Asker
 from ..ask.regions import POINTER, Lookup, Region
 from ..ask.verdicts import FOR_OTHER_ABI
@@ -133,13 +133,13 @@ class Inputs:
         """What the profile answers. Raises Refusal."""
         profile, judged = self.profile or b"", self.judged
         return AnsweringStack(regions.regions_of_profile(profile, judged, number=self.number),
-                              lambda call: reasons.profile_reason(profile, judged, call.words()).answer)
+                              lambda call: explanation.profile_reason(profile, judged, call.words()).answer)
 
-    def reason(self, call: Call) -> reasons.Reason:
+    def reason(self, call: Call) -> explanation.Reason:
         """Why the profile answers a call so: as all calls of its region, if scf decides that. Raises Refusal."""
         region = self.of_profile.regions.of(call)
-        return reasons.profile_reason(self.profile or b"", self.judged, call.words()) if region is None else \
-            reasons.region_reason(region.line)
+        return explanation.profile_reason(self.profile or b"", self.judged, call.words()) if region is None else \
+            explanation.region_reason(region.line)
 
 
 @dataclass
@@ -272,7 +272,7 @@ def _of_profile(case: Case, cause: Cause) -> Iterator[str]:
     reason = given.reason(case.call)
     yield reason.line
     call = None if case.is_for_all and cause.event.unknown else case.call
-    yield from output.notes([case.answer.describe(), *reasons.describe_reason(reason, given.profile, call),
+    yield from output.notes([case.answer.describe(), *explanation.describe_reason(reason, given.profile, call),
                              *_of_case(case, cause.event, given.table)])
 
 
@@ -311,7 +311,7 @@ def cause_json(cause: Cause) -> dict[str, object]:
     event, given = cause.event, cause.given
 
     def of_profile(case: Case) -> dict[str, object]:
-        return reasons.reason_json(given.reason(case.call), given.profile or b"", None)
+        return explanation.reason_json(given.reason(case.call), given.profile or b"", None)
 
     def of_filters(case: Case) -> dict[str, object]:
         givers, = listing.deciding_filters([(given.filters, case.answer)], case.call.words())

@@ -16,7 +16,7 @@ from ..model.architectures import JUDGED, NATIVE, Architecture, machine_architec
 from ..model.argument_sets import EMPTY_SET, Sets, Steps, TooMany
 from ..model.calls import Call
 from ..model.tables import Table, Tables
-from ..ask import client, reasons, regions
+from ..ask import client, explanation, regions
 from ..ask.answer_sets import arguments_of
 from ..ask.verdicts import UNDECIDED, UNFINISHED
 from ..forms import runtimes
@@ -80,7 +80,7 @@ class NeededCall:
     @property
     def is_foreign(self) -> bool:
         """Whether the profile doesn't list its architecture."""
-        return self.line == reasons.FOREIGN
+        return self.line == explanation.FOREIGN
 
     def describe(self) -> str:
         """The line of one that isn't allowed, or not always."""
@@ -159,7 +159,7 @@ class Judge:
         if not self._lookup.is_finished:
             return replace(needed, disposition=UNDECIDED, line=UNFINISHED)
         if not allowed and not denied:
-            return replace(needed, disposition=NOT_ALLOWED, line=reasons.FOREIGN, denied=(call, KILL_PROCESS))
+            return replace(needed, disposition=NOT_ALLOWED, line=explanation.FOREIGN, denied=(call, KILL_PROCESS))
         needed = replace(needed, disposition=ALLOWED, allowed=allowed[0][0] if allowed else None, passing=passing)
         if not denied:
             return needed
@@ -270,7 +270,7 @@ def _call_json(needed: NeededCall, table: Table) -> dict[str, object]:
         "arguments": {str(index): None if values is None else list(map(hex, values))
                       for index, values in needed.arguments}}
     if needed.denied:
-        (call, answer), reason = needed.denied, reasons.region_reason(needed.line)
+        (call, answer), reason = needed.denied, explanation.region_reason(needed.line)
         shown["not_allowed"] = {"call": call.as_json(table), "answer": answer.as_json(), "reason": reason.by,
                                 **({} if reason.entry is None else {"entry": reason.entry})}
     if needed.allowed and depends:

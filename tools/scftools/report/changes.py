@@ -9,9 +9,8 @@ from ..model import constants, tables
 from ..model.answers import DISPOSITIONS, FIRST_X32, Answer
 from ..model.architectures import JUDGED, NATIVE, Architecture
 from ..model.calls import Call
-from ..ask import questions, reasons
-from ..ask.explanation import MORE_SPLITS, join_names
-from ..ask.reasons import Reason
+from ..ask import explanation, questions
+from ..ask.explanation import MORE_SPLITS, Reason, join_names
 from ..ask.regions import Region
 from ..ask.verdicts import (FAILING_WORDS, LESS, MORE, OTHERWISE, SAME, SAME_DISPOSITION, UNDECIDED, UNFINISHED, Report,
                             Verdict, relation_json)
@@ -150,7 +149,7 @@ def line_of(change: Change, sides: Sequence[ProfileInput]) -> str:
     if change.call is not None:
         words += ["args", *map(hex, change.call.arguments)]
     for (name, reason), side in zip(change.reasons.items(), sides):
-        entry = [] if reason.entry is None else [str(reasons.index_of(reason, side.origins))]
+        entry = [] if reason.entry is None else [str(explanation.index_of(reason, side.origins))]
         words += [name, str(reason.answer), reason.by, *entry]
     return " ".join(words)
 
@@ -163,7 +162,7 @@ def _entries(changes: Changes) -> Iterator[str]:
         of_side = {({"entry": 0, "stub": 1}.get(reason.by, 2), reason.entry or 0): reason
                    for reason in given if not reason.is_foreign}
         for (place, _), reason in sorted(of_side.items(), key=lambda item: item[0]):
-            by = next(reasons.describe_reason(reason, side.data, None, side.origins), "").partition(" ")[2]
+            by = next(explanation.describe_reason(reason, side.data, None, side.origins), "").partition(" ")[2]
             yield f"{name}: " + (by if place < 2 else f"default: {reason.answer.describe() if reason.answer else ''}")
 
 
@@ -190,7 +189,7 @@ def change_lines(changes: Changes) -> Iterator[str]:
             yield line_of(change, sides)
             # the conditions that the example meets, and the example as C would have it
             notes = [f"{name}: {line}" for (name, reason), side in zip(change.reasons.items(), sides)
-                     for line in reasons.conditions_met(reason, side.data, change.call)]
+                     for line in explanation.conditions_met(reason, side.data, change.call)]
             if change.names and change.call is not None and any(change.call.arguments):
                 notes.append(f"the syscall is {constants.call_text(change.names[0], change.call.arguments)}")
             yield from output.notes(notes)
@@ -216,7 +215,7 @@ def _change_json(pair: ProfileComparison, change: Change) -> dict[str, object]:
         members["call"] = change.call.as_json(pair.table)
     for (name, reason), side in zip(change.reasons.items(), pair.sides):
         answer = {"answer": reason.answer.as_json(explains=True)} if reason.answer else {}
-        members[name] = {**answer, **reasons.reason_json(reason, side.data, change.call, side.origins)}
+        members[name] = {**answer, **explanation.reason_json(reason, side.data, change.call, side.origins)}
     return members
 
 

@@ -13,7 +13,7 @@ from ..model.architectures import JUDGED, NATIVE, Architecture
 from ..model.bpf import looks_at_pointer
 from ..model.calls import SKIPPED, Call
 from ..model.tables import Table, Tables
-from ..ask import client, other_abis, reasons, regions, verdicts
+from ..ask import client, explanation, other_abis, regions, verdicts
 from ..ask.client import Fault, Refusal
 from ..ask.other_abis import AbiAccess
 from ..ask.regions import EVERY_RECORD, Lookup, Region, beyond, span_of
@@ -260,15 +260,15 @@ class Pair:
         return functools.lru_cache(None)(lambda at: regions.Lookup(
             regions.regions_of_profile(self.sides[at].data, self.judged[at])))
 
-    def reason_of(self, at: int, call: Call, region: Region | None = None) -> reasons.Reason:
+    def reason_of(self, at: int, call: Call, region: Region | None = None) -> explanation.Reason:
         """A profile's answer to a syscall and its reason: by the differences, of which one may be known to have it, by
         its own regions, or else by `ask`."""
         region = region or self.differences.of(call)
         if region is not None and (at == 1 or not self.stacks):
-            return reasons.region_reason((region.beside if at else region).line)
+            return explanation.region_reason((region.beside if at else region).line)
         region = self._lookup(at).of(call)
-        return reasons.region_reason(region.line) if region is not None else \
-            reasons.profile_reason(self.sides[at].data, self.judged[at], call.words())
+        return explanation.region_reason(region.line) if region is not None else \
+            explanation.profile_reason(self.sides[at].data, self.judged[at], call.words())
 
     def asked_accesses(self, scope: str, relation: str | None = None) -> list[AbiAccess]:
         """The access of those other ABIs that a relation over a scope asks about, with the verdict on it: whether a

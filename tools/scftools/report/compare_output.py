@@ -12,8 +12,8 @@ from ..model import profiles, tables
 from ..model.answers import ALLOWED, DELEGATED, DENIED, Answer
 from ..model.architectures import JUDGED
 from ..model.calls import ARCHITECTURE, NUMBER, Call
-from ..ask import explanation, reasons
-from ..ask.explanation import join_names
+from ..ask import explanation
+from ..ask.explanation import describe_reason, join_names
 from ..ask.verdicts import (ALL, CALLS, DIFFERS, LESS, LISTED, MORE, NO_LESS, NO_MORE, SAME, UNDECIDED, UNDETERMINED,
                             Fault, NamedCall, Report, Verdict, relation_json)
 from ..forms import refusals
@@ -179,10 +179,10 @@ def _reasons(comparison: Pair, verdict: Verdict) -> list[tuple[int, Any]]:
 def difference_lines(comparison: Pair, verdict: Verdict) -> Iterator[str]:
     """The lines after a syscall that differs: a profile's reason, and the last tests on a filter's path."""
     found = _reasons(comparison, verdict)
-    of_profiles = [(at, given) for at, given in found if isinstance(given, reasons.Reason)]
+    of_profiles = [(at, given) for at, given in found if isinstance(given, explanation.Reason)]
     for at, reason in of_profiles:
         side, before = comparison.sides[at], f"{comparison.title(at)}: " * (len(of_profiles) > 1)
-        yield from (before + line for line in reasons.describe_reason(reason, side.data, verdict.call, side.origins))
+        yield from (before + line for line in describe_reason(reason, side.data, verdict.call, side.origins))
     for at, path in found:
         if isinstance(path, listing.Path):
             title = path.title(comparison.sides[at]) if of_profiles else path.filter.name
@@ -196,7 +196,7 @@ def _difference_json(comparison: Pair, verdict: Verdict) -> dict[str, object]:
         name, side = comparison.names[at], comparison.sides[at]
         if isinstance(side, ProfileInput):
             holder = members if name == "profile" and comparison.profile else members[name]
-            holder.update(reasons.reason_json(given, side.data, verdict.call, side.origins))
+            holder.update(explanation.reason_json(given, side.data, verdict.call, side.origins))
         else:
             path = f"path_{name}" if comparison.is_diff else "path_beside" if at else "path"
             members[path] = None if given is None else given.as_json()

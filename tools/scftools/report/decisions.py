@@ -13,9 +13,9 @@ from ..model.answers import DOES, FIRST_X32, NUMBERS_OF_ERRNOS, X86_64, Answer
 from ..model.calls import OPTIONS, SKIPPED, Call
 from ..model.constants import argument_in, number_in
 from ..model.tables import Table, Tables
-from ..ask import client, explanation, reasons
+from ..ask import client, explanation
 from ..ask.client import Fault, Refusal
-from ..ask.reasons import Reason
+from ..ask.explanation import Reason
 from ..ask.verdicts import FOR_OTHER_ABI, UNDETERMINED, Decision
 from ..cli.words import Parser
 from ..forms import refusals
@@ -220,12 +220,12 @@ def is_undetermined(reason: Reason, call: Call, profile: bytes, judged: Tables) 
 def profile_decisions(given: ProfileInput, query: Query, judged: Tables, table: Table) -> Block:
     """The reply of a profile, with its reason; of a resolved profile with the entries' indexes in the user's file."""
     profile, origins, call = given.data, given.origins, query.call
-    reason = reasons.profile_reason(profile, judged, query.words())
+    reason = explanation.profile_reason(profile, judged, query.words())
     if call is not None and is_undetermined(reason, call, profile, judged):
         return _reply(program.UNKNOWN, call, Decision(FOR_OTHER_ABI), table,
                       explanation.explain_call(call, judged.native), lambda: {"reason": UNDETERMINED})
-    return _reply(reason.status, call, reason, table, reasons.describe_reason(reason, profile, call, origins),
-                  lambda: reasons.reason_json(reason, profile, call, origins),
+    return _reply(reason.status, call, reason, table, explanation.describe_reason(reason, profile, call, origins),
+                  lambda: explanation.reason_json(reason, profile, call, origins),
                   sentences=lambda fault: refusals.sentences(fault, profile, judged, origins))
 
 

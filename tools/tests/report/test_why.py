@@ -15,7 +15,7 @@ import kernel_profiles
 import kernel_programs
 from scftools.model import tables
 from scftools.model.calls import Call
-from scftools.ask import reasons
+from scftools.ask import explanation
 from scftools.forms.filters import Filter
 from scftools.report import listing
 
@@ -257,12 +257,12 @@ class Ask(Case):
                 call = Call(random_of.choice((*kernel_profiles.TABLE.values(), X32 - 1, X32)),
                             random_of.choice((*[X86_64] * 9, I386)), 0, tuple(values))
                 word, place, conditions = reading(profile, call)
-                reason = reasons.profile_reason(profile, tables.Tables({tables.NATIVE: table}), call.words())
+                reason = explanation.profile_reason(profile, tables.Tables({tables.NATIVE: table}), call.words())
                 self.assertEqual((reason.status, reason.line),
                                  (0, f"{kernel_profiles.answer_of(profile, call).action} {reason.answer.data} {word}"))
                 self.assertEqual(reason.answer, kernel_profiles.answer_of(profile, call))
                 self.assertEqual(reason.entry, place)
-                told = list(reasons.describe_reason(reason, profile, call))
+                told = list(explanation.describe_reason(reason, profile, call))
                 self.assertEqual(len(told), 1 + len(conditions))
                 seen.add((word[:5], bool(conditions)))
         self.assertEqual(seen, {("entry", True), ("entry", False), ("defau", False), ("forei", False)})
