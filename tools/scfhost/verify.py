@@ -7,7 +7,7 @@ from collections.abc import Iterator, Sequence
 from scftools.base import output, program
 from scftools.base.values import Any, dataclass, field, replace
 from scftools.model import profiles, tables
-from scftools.ask import explanation, other_abis, verdicts
+from scftools.ask import explanation, questions, verdicts
 from scftools.forms import engines, filters, runtimes
 from scftools.forms.filters import Filter
 from scftools.forms.profile_inputs import ProfileInput
@@ -104,7 +104,7 @@ class Request:
 def nothing_request(*settings: Any, **named: Any) -> Request:
     """The question where nothing is configured, by the other settings of a request: other ABIs' syscalls are allowed,
     too."""
-    return Request(ProfileInput(ALLOWS_ALL), *settings, elsewhere=other_abis.NAMES, **named)
+    return Request(ProfileInput(ALLOWS_ALL), *settings, elsewhere=questions.ABI_NAMES, **named)
 
 
 def request_of(config: dict[str, Any], runtime: str | None, *settings: Any, keeps_first: bool = False,

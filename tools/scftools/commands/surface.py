@@ -66,7 +66,7 @@ import types
 from ..base import inputs, output
 from ..base.values import unless_refused
 from ..model import architectures, tables
-from ..ask import client, other_abis
+from ..ask import client, questions
 from ..cli import words
 from ..forms import engines, operands
 from ..report.blocks import put_blocks
@@ -132,7 +132,7 @@ def main():
 
     def judge(stack):
         made.append(surface_output.surface_of_stack(
-            stack, beside, table, architecture, architecture.oci == machine and machine in other_abis.OF_MACHINES,
+            stack, beside, table, architecture, architecture.oci == machine and machine in questions.OF_MACHINES,
             options.conditions, options.examples))
         return made[-1].block(width)
 

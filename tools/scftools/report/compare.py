@@ -13,9 +13,9 @@ from ..model.architectures import JUDGED, NATIVE, Architecture
 from ..model.bpf import looks_at_pointer
 from ..model.calls import SKIPPED, Call
 from ..model.tables import Table, Tables
-from ..ask import client, explanation, other_abis, regions, verdicts
+from ..ask import client, explanation, questions, regions, verdicts
 from ..ask.client import Fault, Refusal
-from ..ask.other_abis import AbiAccess
+from ..ask.questions import AbiAccess
 from ..ask.regions import EVERY_RECORD, Lookup, Region, beyond, span_of
 from ..ask.verdicts import (ALL, CALLS, FAILING_WORDS, FOR_OTHER_ABI, LESS, LISTED, MORE, NATIVE_SCOPE, NO_LESS,
                             NO_MORE, RELATIONS, SAME, SCOPES, UNDETERMINED, UNFINISHED, NamedCall, Report, Verdict,
@@ -345,7 +345,7 @@ class Comparison(Pair):
         names: a runtime kills for their syscalls."""
         judged = self.tables.of
         named = {*judged, *self.elsewhere, *profiles.not_compared_of(self.profile)}
-        return [abi for machine in judged for abi in other_abis.OF_MACHINES.get(machine, ()) if abi.oci not in named]
+        return [abi for machine in judged for abi in questions.OF_MACHINES.get(machine, ()) if abi.oci not in named]
 
     @functools.cached_property
     def accesses(self) -> list[AbiAccess]:
@@ -354,7 +354,7 @@ class Comparison(Pair):
         try:
             listed = self.differences.regions if self.abis else []
             listed = regions.regions_of_filters(filters) if listed is None else listed
-            return [other_abis.abi_access(filters, listed, abi, SKIPPED - 1) for abi in self.abis]
+            return [questions.abi_access(filters, listed, abi, SKIPPED - 1) for abi in self.abis]
         except Refusal:
             return [AbiAccess(abi, Verdict(UNFINISHED)) for abi in self.abis]
 

@@ -17,7 +17,7 @@ from ..model.answers import ACTIONS_WITH_DATA, DISPOSITIONS, ENOSYS, FIRST_X32, 
 from ..model.architectures import JUDGED, Architecture
 from ..model.argument_sets import EMPTY_SET, FIRST_UNTESTED, FULL_SET, MOST_STEPS, Sets, Steps, TooMany
 from ..model.profiles import SANDBOX, STRICT, TRAP
-from ..ask import answer_sets, client, other_abis, questions, regions
+from ..ask import answer_sets, client, questions, regions
 from ..ask.answer_sets import FIRST_OPEN, FIRST_UPPER, Answers
 from ..ask.explanation import join_names
 from ..ask.questions import EVERYTHING, NOTHING, Asker
@@ -157,7 +157,7 @@ class FilterAnswers:
             given = runtimes.applied(engines.parse_json(given.data), self.runtime)
             given = given if relation == SAME and self.end != FIRST_X32 else replace(given, stub={})
         return Comparison(self.filters, given, self.table, TURNED.get(relation, relation),
-                          architecture=self.architecture.oci, elsewhere=other_abis.NAMES)
+                          architecture=self.architecture.oci, elsewhere=questions.ABI_NAMES)
 
     def compared(self, profile: dict[str, object], relation: str = SAME) -> Report:
         """scf's report on whether a profile has this relation to the filters, in each architecture that it lists.
@@ -361,7 +361,7 @@ def _covered(answers: FilterAnswers, *proved: ProvedProfile) -> Iterator[str]:
     deny every syscall."""
     listed = proved[0].profile["architectures"] if proved else [answers.architecture.oci]
     data = [bpf_filter.data for bpf_filter in answers.filters]
-    accesses = [other_abis.abi_access(data, answers.regions, JUDGED[name]) for name in answers.others
+    accesses = [questions.abi_access(data, answers.regions, JUDGED[name]) for name in answers.others
                 if name not in listed]
     others = [f"{access.describe()}; --arch {access.abi.name} prints its profile" for access in accesses
               if not access.are_denied]

@@ -15,7 +15,7 @@ from ..model.architectures import NATIVE, Architecture
 from ..model.bundles import BESIDE
 from ..model.calls import NO_CALL
 from ..model.tables import Table, Tables, dangerous
-from ..ask import client, explanation, other_abis, questions
+from ..ask import client, explanation, questions
 from ..ask.explanation import join_names
 from ..ask.regions import span_of
 from ..ask.verdicts import SAME, UNDECIDED, UNFINISHED, NamedCall, Verdict
@@ -272,7 +272,7 @@ def compared_surfaces(*sides: Surface) -> Beside:
                   if rows[0].number in lines)
     of_unnamed = [comparison.of_numbers(NATIVE, first, end - 1) for first, end in questions.gaps(comparison.table)]
     of_foreign = []
-    for abi in other_abis.ABIS:
+    for abi in questions.ABIS:
         verdict = comparison.differences.verdict(SAME, [span_of(abi.oci, last=NO_CALL - 1)])
         if verdict is None:
             # behind a filter that allows these alone, since no scope of scf has them

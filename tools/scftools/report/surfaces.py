@@ -12,7 +12,7 @@ from ..model.answers import ALLOWED, DELEGATED, DENIED, DEPENDS, Answer
 from ..model.architectures import JUDGED, NATIVE, Architecture
 from ..model.calls import Call
 from ..model.tables import Table
-from ..ask import other_abis, regions
+from ..ask import questions, regions
 from ..ask.questions import IS_ALLOWED, IS_DENIED, IS_NEVER_ALLOWED, IS_NEVER_DENIED, Asker
 from ..ask.regions import Numbers, Region
 from ..ask.verdicts import UNDECIDED, UNFINISHED
@@ -150,7 +150,7 @@ class Surface:
     regions: Sequence[Region] | None
     rows: list[Row]
     # the access of the machine's other ABIs, none if one ABI alone is looked at
-    foreign: list[other_abis.AbiAccess]
+    foreign: list[questions.AbiAccess]
     unnamed: Unnamed
     # those of other ABIs of which some syscall may be allowed, on request
     others: list[Surface] = field(default_factory=list)
@@ -175,7 +175,7 @@ class Surface:
             all(access.are_denied for access in self.foreign)
         return [architecture for architecture in JUDGED.values() if is_denied and self.foreign
                 and architecture not in known_abis
-                and other_abis.abi_access(self.asker.filters, self.regions, architecture).call is not None]
+                and questions.abi_access(self.asker.filters, self.regions, architecture).call is not None]
 
 
 def _ask(asker: Asker, rows: Iterable[Row]) -> None:
@@ -206,8 +206,8 @@ def of_regions(filters: Sequence[bytes], filter_regions: Sequence[Region] | None
     if filter_regions is not None:
         asker.check(table)
         _ask(asker, rows)
-    foreign = [other_abis.abi_access(filters, filter_regions, abi)
-               for abi in (other_abis.OF_MACHINES[architecture.oci] if is_machine else ())]
+    foreign = [questions.abi_access(filters, filter_regions, abi)
+               for abi in (questions.OF_MACHINES[architecture.oci] if is_machine else ())]
     unnamed = Unnamed(architecture.last - architecture.first + 1 - len(table.numbers()))
     for number, count, here in numbers.unnamed(table):
         unnamed.add(Row(number, [], architecture, here), count)

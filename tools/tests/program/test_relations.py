@@ -12,7 +12,7 @@ from support.confined import Confined, here
 from support.several import disposition
 from support.stand_in import StandIn
 from scftools.model import answers, calls, tables
-from scftools.ask import client, other_abis, regions
+from scftools.ask import client, questions, regions
 from scftools.forms.filters import Filter
 from scftools.forms.profile_inputs import ProfileInput
 from scftools.report import compare
@@ -36,7 +36,7 @@ def allows_alone(kind):
 
 def known_of(filters):
     """What filters allow of i386 and x32."""
-    return [other_abis.abi_access(filters, regions.regions_of_filters(filters), abi) for abi in other_abis.ABIS]
+    return [questions.abi_access(filters, regions.regions_of_filters(filters), abi) for abi in questions.ABIS]
 
 
 def one_number(number, answer, default):
@@ -142,13 +142,13 @@ class Foreign(Case):
     def test_each_kind(self):
         """The filters of the pairs and some more: a call of the kind is shown exactly where one isn't refused."""
         given = [row[0] for row in PAIRS.values() if all(isinstance(data, bytes) for data in row[0])]
-        for kind in other_abis.ABIS:
+        for kind in questions.ABIS:
             alone = allows_alone(kind)
             given.append([alone])
             given.append([load(0) + jeq(43, 0, 1) + ret(LOG) + ret(EPERM), alone])
         given += [[filter_of([READ], foreign=answer)] for answer in ANSWERS]
         for filters in given:
-            for kind, access in zip(other_abis.ABIS, known_of(filters)):
+            for kind, access in zip(questions.ABIS, known_of(filters)):
                 self.assertTrue(access.is_decided)
                 through = [call for call in CORNERS if self.is_of(kind, call)
                            and disposition(StandIn().decision(filters, call))]
@@ -170,7 +170,7 @@ class Foreign(Case):
 
     def test_which_are_denied(self):
         """i386, all of which this filter allows, isn't among them where the profile, or another one, names it."""
-        i386, _ = other_abis.ABIS
+        i386, _ = questions.ABIS
         for data, names, elsewhere, shown in (
                 (allows_alone(i386), ["SCMP_ARCH_X86_64", i386.oci], (), [("x32", True)]),
                 (allows_alone(i386), ["SCMP_ARCH_X86_64"], (i386.oci,), [("x32", True)]),
@@ -230,4 +230,4 @@ class VerifyProcess(Confined):
         stack = report["stacks"][0]
         self.assertEqual((report["verdict"], stack["relation"]), ("no more", "no more"))
         self.assertEqual(stack["foreign"], [{"kind": kind.name, "is_decided": True, "not_denied": []}
-                                            for kind in other_abis.ABIS])
+                                            for kind in questions.ABIS])
