@@ -85,15 +85,14 @@ def explain_skipped(report: Report, judged: Tables, profile: bytes) -> Iterator[
     if not report.skipped:
         return
     classified = tables.classify(report.skipped, judged)
-    yield (f"names in the profile that were skipped because no table has them: {len(report.skipped)}"
-           + (", all of them syscalls of other architectures" if not classified.left_out and not classified.unknown
-              else ""))
+    which = "" if classified.left_out or classified.unknown else ", all of them syscalls of other architectures"
+    yield f"names in the profile that were skipped because no table has them: {len(report.skipped)}{which}"
     for name in classified.left_out[:tables.MOST_LISTED]:
         yield f"{name} is an x86-64 syscall that this table leaves out"
     for name, near in classified.unknown[:tables.MOST_LISTED]:
         nearest = f"; the nearest name in the table is {near}" if near else ""
         yield f"no known syscall is named {output.cut(name)}{nearest}"
-    more = max(len(classified.left_out) - tables.MOST_LISTED, 0) + max(len(classified.unknown) - tables.MOST_LISTED, 0)
+    more = sum(max(len(each) - tables.MOST_LISTED, 0) for each in (classified.left_out, classified.unknown))
     if more:
         yield f"more such names: {more}"
     default = profiles.default_of(profile)
@@ -103,8 +102,7 @@ def explain_skipped(report: Report, judged: Tables, profile: bytes) -> Iterator[
 
 def explain_architectures(report: Report) -> Iterator[str]:
     """Which architectures of a profile aren't judged, and why."""
-    left_out = [architecture
-                for architecture in dict.fromkeys(report.architectures) if architecture in architectures.JUDGED]
+    left_out = [oci for oci in dict.fromkeys(report.architectures) if oci in architectures.JUDGED]
     if left_out:
         yield f"--native leaves out {join_names(left_out)}, which the profile also names"
     if len(left_out) < len(set(report.architectures)):

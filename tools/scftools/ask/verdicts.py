@@ -83,11 +83,10 @@ class Verdict:
 
     def as_json(self, table: Table, sides: tuple[str, str] = ("filter", "profile")) -> dict[str, object]:
         """Its example, as members of an object, with these names of both sides."""
-        members: dict[str, object] = {} if self.call is None else {"call": self.call.as_json(table)}
-        for side, answer in zip(sides, (self.filters, self.profile)):
-            if answer is not None:
-                members[side] = answer.as_json()
-        return members if self.at is None else {**members, "at": self.at}
+        answers = zip(sides, (self.filters, self.profile))
+        members = {"call": self.call and self.call.as_json(table),
+                   **{side: answer and answer.as_json() for side, answer in answers}, "at": self.at}
+        return {name: value for name, value in members.items() if value is not None}
 
 
 @dataclass(frozen=True)
@@ -115,10 +114,8 @@ class NamedCall:
         return self.verdict.call or Call(self.architecture.first + self.number, self.architecture.number)
 
     def as_json(self) -> dict[str, object]:
-        members: dict[str, object] = {"number": self.number, "names": list(self.names), "verdict": self.verdict.word}
-        if self.architecture.oci != NATIVE:
-            members["architecture"] = self.architecture.name
-        return members
+        named = {} if self.architecture.oci == NATIVE else {"architecture": self.architecture.name}
+        return {"number": self.number, "names": list(self.names), "verdict": self.verdict.word, **named}
 
 
 @dataclass(frozen=True)
