@@ -135,17 +135,12 @@ class Reason:
 def profile_reason(profile: bytes, judged: Tables, words: Sequence[str]) -> Reason:
     """A profile's reason for the record that scf's options give."""
     done = client.run_scf(["ask", *judged.words, *words], bundles.profile_bundle(profile, judged))
-    return _read(done.status, done.text)
+    return region_reason(done.line, done.status)
 
 
 @functools.lru_cache(None)
-def region_reason(line: str) -> Reason:
-    """The reason of all records of a region of a profile, by its line, which many regions have."""
-    return _read(program.SUCCESS, line)
-
-
-def _read(status: int, text: str) -> Reason:
-    line = text.split("\n", 1)[0]
+def region_reason(line: str, status: int = program.SUCCESS) -> Reason:
+    """The reason in a line, as of all records of a region of a profile; many regions have the same."""
     match = REASON_LINE.fullmatch(line)
     if not match:
         return Reason(status, line, fault=Fault.read(line))

@@ -361,11 +361,9 @@ class Lookup:
         architecture, failing = JUDGED[name], []
         numbers = self.of_architecture(architecture)
         for number in sorted(table.numbers()) if self.regions is not None else ():
-            here = numbers.of(architecture.first + number)
-            if not here:
-                continue
             call = Call(architecture.first + number, architecture.number)
-            verdict = _verdict(relation, here, lambda region: region.call_of(call.number, call.architecture) or call)
+            verdict = _verdict(relation, numbers.of(call.number),
+                               lambda region: region.call_of(call.number, call.architecture) or call)
             if verdict is None:
                 return None
             if verdict.call is not None:

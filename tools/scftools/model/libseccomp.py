@@ -44,9 +44,8 @@ class Library:
             version_of = library.seccomp_version
         except (OSError, AttributeError) as error:
             raise program.ToolError("there is no libseccomp.so.2") from error
-        self._library, library.seccomp_init.restype = library, ctypes.c_void_p
-        self._pointer = ctypes.c_void_p
-        self._string_at = ctypes.string_at
+        self._library, self._pointer, self._string_at = library, ctypes.c_void_p, ctypes.string_at
+        library.seccomp_init.restype = ctypes.c_void_p
         self._number_of.argtypes = [ctypes.c_uint32, ctypes.c_char_p]
         self._token_of.restype, self._token_of.argtypes = ctypes.c_uint32, [ctypes.c_char_p]
         self._name_of.restype, self._name_of.argtypes = ctypes.c_void_p, [ctypes.c_uint32, ctypes.c_int]
