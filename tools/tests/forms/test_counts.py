@@ -177,7 +177,5 @@ class Needs(Case):
         self.assertEqual(out, "read 3\nclose 1\nwrite 1\n")
         hot, profile = self.file("hot", out), os.path.join(self.folder, "p.json")
         self.assertEqual(self.run_tool("compile", "--json", "--hot", hot, profile)[::2], (0, ""))
-
-    def test_words(self):
         for word in ("--profile", "--json"):
             self.assertEqual(self.run_tool("needs", "--counts", word, "log", "p.json")[0], 2)

@@ -39,17 +39,19 @@ class ResolveProfile(Case):
         self.is_refusal(says, done)
         self.assertIn("resolve-profile: ", done[2])
 
-    def test_a_plain_profile_stays(self):
-        given = engine(entry("read", args=[{"index": 0, "value": 2**64 - 1, "valueTwo": 0, "op": "SCMP_CMP_EQ"}]),
+    def test_what_stays_and_what_goes(self):
+        """A plain profile stays. What says nothing goes, as all of a config.json but its profile."""
+        plain = engine(entry("read", args=[{"index": 0, "value": 2**64 - 1, "valueTwo": 0, "op": "SCMP_CMP_EQ"}]),
                        entry("write", action=ERRNO, errnoRet=0), defaultErrnoRet=38, architectures=["SCMP_ARCH_X86_64"],
                        flags=["SECCOMP_FILTER_FLAG_LOG"], listenerPath="/run/x", listenerMetadata="m")
-        self.assertEqual(self.resolved(given), (given, ""))
-
-    def test_what_says_nothing_goes(self):
+        self.assertEqual(self.resolved(plain), (plain, ""))
         nothing = {"comment": "why", "includes": {}, "excludes": {"caps": [], "arches": None}, "args": None,
                    "errnoRet": None}
-        given = engine({**entry("read"), **nothing}, archMap=[], architectures=[])
-        self.assertEqual(self.resolved(given), (engine(entry("read")), ""))
+        for given in (engine({**entry("read"), **nothing}, archMap=[], architectures=[]),
+                      engine({"name": "read", "action": ALLOW}),
+                      engine({"name": "read", "names": [], "action": ALLOW}),
+                      {"ociVersion": "1.0.2", "linux": {"seccomp": engine(entry("read"))}}):
+            self.assertEqual(self.resolved(given), (engine(entry("read")), ""))
 
     def test_capabilities_of_an_entry(self):
         """Includes want all of them, and excludes none."""
@@ -151,8 +153,6 @@ class ResolveProfile(Case):
                              ([f"SCMP_ARCH_{oci}"], [["a"]]))
 
     def test_an_entrys_names(self):
-        for single in ({"name": "read", "action": ALLOW}, {"name": "read", "names": [], "action": ALLOW}):
-            self.assertEqual(self.resolved(engine(single)), (engine(entry("read")), ""))
         self.refused(engine({"name": "read", "names": ["write"], "action": ALLOW}), "both name and names")
         for nothing in ({"action": ALLOW}, {"names": [], "action": ALLOW},
                         {"names": None, "name": "", "action": ALLOW}):
@@ -212,13 +212,6 @@ class ResolveProfile(Case):
                             (engine(entry("a", includes={"Caps": ["CAP_KILL"]})), "'Caps'"),
                             (engine(entry("a", args=[{"Index": 0}])), "'Index'")):
             self.refused(given, says)
-
-    def test_inputs(self):
-        config = {"ociVersion": "1.0.2", "linux": {"seccomp": engine(entry("read"))}}
-        self.assertEqual(self.resolved(config)[0], engine(entry("read")))
-        self.assertEqual(self.run_tool("resolve-profile", self.file("p.json", engine(entry("read"))))[0], 0)
-        for name, says in (("none", "there is no file 'none'"), (self.folder, "is a folder")):
-            self.is_refused(says, "resolve-profile", name)
 
     def test_the_engine_says_which_members_count(self):
         given = engine(entry("a", includes={"minKernel": "255.0"}), entry("b", action=ERRNO, errno="ENOSYS"),

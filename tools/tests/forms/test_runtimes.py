@@ -177,10 +177,9 @@ class Runtimes(Case):
             given = {"defaultAction": default, "architectures": architectures,
                      "syscalls": [entry(*below), entry("mkdir", action=ERRNO, errnoRet=7)]}
             first = {architecture: firsts[architecture] for architecture in with_stub}
-            verdict, has_stub, applied = self.compared("runc", given)
-            self.assertEqual((verdict, has_stub, applied.stub), ("same", bool(first), first), given)
-            verdict, has_stub, applied = self.compared("crun", given)
-            self.assertEqual((verdict, has_stub, applied.stub), ("same", False, {}), given)
+            for runtime, its in (("runc", first), ("crun", {})):
+                verdict, has_stub, applied = self.compared(runtime, given)
+                self.assertEqual((verdict, has_stub, applied.stub), ("same", bool(its), its), given)
 
     def test_filters_beside_the_stub(self):
         """A stub at another number is none. Of a call above it that is allowed, that call is shown, and not one of
@@ -484,11 +483,10 @@ class Tools(Case):
         self.is_refused("'X' isn't a capability", "ask", "--runtime", "podman", "--caps", "X", path)
 
     def test_a_bundle(self):
-        parts = part("profile", json.dumps(self.given).encode()) + part("table", bytes_of(TABLE))
-        for words, more, line in ((("--reading", "crun"), b"", "ERRNO 1 default"),
-                                  (("--reading", "runc"), part("stub-table", b"95"), "ERRNO 38 stub")):
-            self.assertEqual(self.output_of(0, "ask", "--nr", "95", *words, given=parts + more), f"{line}\n")
-        self.is_refused("--reading goes with a bundle on standard input", "ask", "--reading", "crun", self.path)
+        parts = part("profile", json.dumps(self.given).encode()) + part("table", bytes_of(TABLE)) + \
+            part("stub-table", b"95")
+        out = self.output_of(0, "ask", "--nr", "95", "--reading", "runc", given=parts)
+        self.assertEqual(out, "ERRNO 38 stub\n")
 
 
 class VerifyProcess(Case):
