@@ -84,15 +84,6 @@ class Setting:
     # Whether each entry has a comment that stays: the lines of a sandbox's list.
     keeps_comments: bool = False
 
-    @property
-    def native(self) -> str:
-        """The OCI name of the machine's own architecture."""
-        return MACHINE_NAMES[self.machine]
-
-    @property
-    def unread(self) -> Sequence[str]:
-        return ENGINES[self.engine] if self.engine is not None else ()
-
 
 def excerpt(value: Any) -> str:
     """Untrusted text or another value in a note, truncated."""
@@ -268,7 +259,8 @@ class Resolver:
         return value
 
     def architectures_of(self, top: dict[str, Any]) -> list[str]:
-        names, mapped, native = top.get("architectures", []), top.get("archMap", []), self.setting.native
+        names, mapped = top.get("architectures", []), top.get("archMap", [])
+        native = MACHINE_NAMES[self.setting.machine]
         if names and mapped:
             raise Refused("the profile has both architectures and archMap, and the engines take one")
         own = next((mapping for mapping in mapped if mapping.get("architecture") == native), None)
@@ -314,7 +306,7 @@ class Resolver:
         """The profile that the engine makes in this setting; on request without later answers to a syscall."""
         value, found = seccomp_of(value), []
         where = "linux.seccomp" if value is None else "the profile"
-        top = read(value, SECCOMP_MEMBERS, where, self.setting.unread, found)
+        top = read(value, SECCOMP_MEMBERS, where, ENGINES.get(self.setting.engine or "", ()), found)
         if not top.get("defaultAction"):
             raise Refused("there is no defaultAction")
         self._tell_unread(found)
@@ -371,15 +363,11 @@ def capabilities_in(mask: int) -> list[str]:
     return sorted(f"CAP_{name}" for bit, name in enumerate(CAPABILITIES) if mask >> bit & 1)
 
 
-def kernel_of(text: str) -> tuple[int, int]:
-    """The version of a kernel, of which two numbers count. Raises Refused where it is none."""
-    parts = re.match(r"([0-9]{1,9})\.([0-9]{1,9})", text)
-    if not parts:
-        raise Refused(f"'{text}' isn't a kernel version such as 6.1")
-    return int(parts[1]), int(parts[2])
-
-
 def setting_of(caps: str, engine: str | None = None, machine: str | None = None, kernel: str | None = None) -> Setting:
-    """A container with these capabilities, by default on this machine and this kernel. Raises Refused."""
-    return Setting(capabilities_of(caps), kernel_of(kernel or os.uname().release), engine=engine,
-                   machine=machine or machine_here())
+    """A container with these capabilities, by default on this machine and this kernel, of whose version two numbers
+    count. Raises Refused."""
+    held, kernel = capabilities_of(caps), kernel or os.uname().release
+    version = re.match(r"([0-9]{1,9})\.([0-9]{1,9})", kernel)
+    if not version:
+        raise Refused(f"'{kernel}' isn't a kernel version such as 6.1")
+    return Setting(held, (int(version[1]), int(version[2])), engine=engine, machine=machine or machine_here())

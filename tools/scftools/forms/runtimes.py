@@ -350,7 +350,7 @@ def applied(value: Any, name: str, setting: Setting | None = None, keeps_first: 
         setting = replace(setting, engine=None, ignored=None)
         _refuse_engines(engines.seccomp_of(value), runtime.program)
     resolved = profile_inputs.resolved(value, setting, keeps_first)
-    given = _Application(runtime, setting.native).run(resolved)
+    given = _Application(runtime, engines.MACHINE_NAMES[setting.machine]).run(resolved)
     names = ", ".join(capability[4:] for capability in setting.capabilities) or "none"
     of_source = setting.engine is not None and setting.source is not None
     remarks = [*given.remarks, *[f"resolved for the capabilities of {setting.source}: {names}"] * of_source]

@@ -180,7 +180,7 @@ class Drawn(Case):
 
     def beside(self, engine, given):
         """What the tools and an engine make of profiles: pairs of a resolved profile, or None where it is refused."""
-        setting = engines.Setting(CAPABILITIES[:1], engines.kernel_of(os.uname().release), False, engine)
+        setting = engines.setting_of("KILL", engine)
         texts = [json.dumps(value) for value in given]
         answers = engine_code.resolved([("podman" if engine == "podman" else "docker", CAPABILITIES[:1], text)
                                         for text in texts])
