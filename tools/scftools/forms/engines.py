@@ -245,9 +245,9 @@ class Resolver:
         # of each entry of the resolved profile
         self.origins: list[Origin] = []
 
-    def errno_of(self, holder: dict[str, Any], name: str, number: str, where: str) -> Any:
+    def errno_of(self, holder: dict[str, Any], name: str, where: str) -> Any:
         """An errno: by its name or as a text where that stands, else the number (getErrno of containers-common)."""
-        text = holder.get(name)
+        text, number = holder.get(name), f"{name}Ret"
         if not text:
             return holder.get(number)
         is_number = len(text) <= MAX_TOLD and re.fullmatch("[0-9]+", text) and int(text) < 1 << 32
@@ -279,15 +279,10 @@ class Resolver:
         if entry.get("name") and entry.get("names"):
             raise Refused(f"{where} has both name and names, and the engines take one")
         names = [entry["name"]] if entry.get("name") else entry.get("names", [])
-        members = {"names": names, "action": entry.get("action", "")}
-        number = self.errno_of(entry, "errno", "errnoRet", where)
-        if number is not None:
-            members["errnoRet"] = number
-        if entry.get("args"):
-            members["args"] = entry["args"]
-        if self.setting.keeps_comments:
-            members["comment"] = entry["comment"]
-        return members if names else None
+        members = {"names": names, "action": entry.get("action", ""),
+                   "errnoRet": self.errno_of(entry, "errno", where), "args": entry.get("args") or None,
+                   "comment": entry["comment"] if self.setting.keeps_comments else None}
+        return {name: value for name, value in members.items() if value is not None} if names else None
 
     def _tell_unread(self, found: Sequence[Unread]) -> None:
         """Notes what nothing reads, and once each what only other engines do; refuses what may be a condition."""
@@ -310,15 +305,10 @@ class Resolver:
         if not top.get("defaultAction"):
             raise Refused("there is no defaultAction")
         self._tell_unread(found)
-        profile = {"defaultAction": top["defaultAction"]}
-        number = self.errno_of(top, "defaultErrno", "defaultErrnoRet", "the profile")
-        if number is not None:
-            profile["defaultErrnoRet"] = number
-        architectures = self.architectures_of(top)
-        if architectures:
-            profile["architectures"] = architectures
-        profile.update((name, top[name]) for name in PASSED_ON if name in top)
-        profile["syscalls"] = []
+        members = {"defaultAction": top["defaultAction"],
+                   "defaultErrnoRet": self.errno_of(top, "defaultErrno", "the profile"),
+                   "architectures": self.architectures_of(top) or None, **{name: top.get(name) for name in PASSED_ON}}
+        profile = {**{name: value for name, value in members.items() if value is not None}, "syscalls": []}
         for at, entry in enumerate(top.get("syscalls", [])):
             why = why_left_out(entry, self.setting)
             made = None if why else self.entry_of(entry, f"entry {at}")
