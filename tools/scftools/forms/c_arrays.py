@@ -2,6 +2,7 @@
 with the macros that it defines itself, and once; and of bytes."""
 from __future__ import annotations
 
+import functools
 import itertools
 import operator
 import re
@@ -25,7 +26,7 @@ OFFSET = (r"(?:__builtin_)?offsetof\s*\(\s*struct\s+seccomp_data\s*,\s*(nr|arch|
 # linux/seccomp.h: struct seccomp_data
 FIELDS = {"nr": 0, "arch": 4, "instruction_pointer": 8}
 MACRO = r"(?s)(BPF_STMT|BPF_JUMP)\s*\((.*)\)"
-C_TOKEN = r"\s*(?:(0[xX][0-9a-fA-F]{1,40}|[0-9]{1,40})[uUlL]*\b|([A-Za-z_]\w*)|(<<|>>|[-|&+~()]))"
+C_TOKEN = r"\s*(?:(0[xX][0-9a-fA-F]{1,40}|[0-9]{1,40})[uUlL]*\b|([A-Za-z_]\w*)|(<<|>>|[-|&+~()])|(\S))"
 # The operators, by the names of Python's syntax trees.
 SHIFTS = (operator.lshift, operator.rshift)
 OPERATIONS = {"BitOr": operator.or_, "BitAnd": operator.and_, "LShift": SHIFTS[0], "RShift": SHIFTS[1],
@@ -74,7 +75,6 @@ class Macros:
         self._room = LONGEST_EXPANSION
         # the parameters, None without brackets, and the text; None of a macro that is defined more than once
         self._of: dict[str, tuple[list[str] | None, str] | None] = {}
-        self._checked: set[tuple[str, str]] = set()
         for how, name, parameters, body in re.findall(DEFINITION, text):
             own = ([*elements_of(parameters[1:-1])] if parameters else None, body.strip())
             self._of[name] = own if how == "define" and self._of.get(name, own) == own else None
@@ -112,10 +112,8 @@ class Macros:
         if self._room < 0 or len(outer) > DEEPEST:
             raise NotAnArray(TOO_LONG)
         value, known = self.expanded(body, (*outer, name)), _known_number(name)
-        if known is not None and (name, value) not in self._checked:
-            if value_of(value) != known:
-                raise NotAnArray(f"'{name[:40]}' is {value[:40]}, which it isn't in the kernel's headers")
-            self._checked.add((name, value))
+        if known is not None and value_of(value) != known:
+            raise NotAnArray(f"'{name[:40]}' is {value[:40]}, which it isn't in the kernel's headers")
         return value
 
 
@@ -129,13 +127,10 @@ def _words(text: str) -> Iterator[str]:
     """The numbers, constants and operators of an expression, as Python has them."""
     bare = re.sub(OFFSET, lambda match: str(16 + 8 * int(match[2]) if match[2] else FIELDS[match[1]]),
                   re.sub(CAST, "", text)).strip()
-    at, pattern = 0, re.compile(C_TOKEN)
-    while at < len(bare):
-        match = pattern.match(bare, at)
-        if not match:
-            raise NotAnArray(f"'{bare[at:at + 20].strip()}' isn't a constant expression")
-        at = match.end()
-        number, name, operator_of = match.groups()
+    for match in re.finditer(C_TOKEN, bare):
+        number, name, operator_of, other = match.groups()
+        if other:
+            raise NotAnArray(f"'{bare[match.start():match.start() + 20].strip()}' isn't a constant expression")
         base = 16 if number and number[:2].lower() == "0x" else 8 if number and re.fullmatch("0[0-7]+", number) else 10
         known = _known_number(name) if name else None
         if name and known is None:
@@ -143,6 +138,7 @@ def _words(text: str) -> Iterator[str]:
         yield operator_of or str(int(number, base) if number else known)
 
 
+@functools.lru_cache(1024)
 def value_of(text: str) -> int:
     """The value of a constant expression of C, modulo 2^64. Python binds its operators as C does."""
     import ast  # pylint: disable=import-outside-toplevel
