@@ -37,9 +37,8 @@ def steps(filter_, number, architecture=X86_64):
     return int(out.split()[-1])
 
 
-def mean(filter_, mix=None):
-    mix = mix or MIX
-    return sum(count * steps(filter_, int(name[1:])) for name, count in mix.items()) / sum(mix.values())
+def mean(filter_):
+    return sum(count * steps(filter_, int(name[1:])) for name, count in MIX.items()) / sum(MIX.values())
 
 
 class Parts(OnProgram):

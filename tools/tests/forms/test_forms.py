@@ -189,11 +189,6 @@ class Raw(Case):
             expected = completed([*CORE, "dis"], data, check=True).stdout.decode()
             self.assertIn(expected.split("\n")[0], self.output_of(0, "list", path))
 
-    def test_every_code_that_the_kernel_takes_is_below_256(self):
-        """What the rule stands on: seccomp_check_filter of kernel/seccomp.c, by scf."""
-        for code in (0x100, 0x106, 0x120, 0x2020, 0x457F, 0x7B20, 0x8006, 0xFF20):
-            self.assertEqual(self.run_words([*CORE, "check"], insn(code, 0) + ret(0))[1], "fault filter Code at 0\n")
-
     def test_other_bytes_go_to_scf(self):
         for data, line in ((b"", "fault filter Empty"), (bytes(32769), "fault filter TooLong"),
                            (b"\n" * 8, "fault filter Code at 0"), (b"\xff\xfe" * 8, "fault filter Code at 0"),

@@ -101,13 +101,6 @@ class Places(Case):
                 self.assertIn("\n# the profile has more than 4194304 bytes\n", out)
                 self.assertNotIn("malformed", out + err)
 
-    def test_architectures_without_a_table(self):
-        out = self.said('{"defaultAction": "SCMP_ACT_LOG", "architectures": ["SCMP_ARCH_S390X"]}')
-        self.assertEqual(out.split("\n")[0], "fault profile NoX8664")
-        self.assertIn("# Take a profile that names an architecture of which scf has a table (`scf call-table -h` lists "
-                      "them).", out)
-        self.assertNotIn("Take the profile for x86-64", out)
-
     def test_large_profiles_take_seconds(self):
         text = profile_of(*(f"a{at}" for at in range(200000)))
         out = self.said(text.replace(b'"action": "SCMP_ACT_ALLOW"', b'"action": "X"'))

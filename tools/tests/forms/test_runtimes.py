@@ -122,12 +122,6 @@ class Runtimes(Case):
                 last = comparison.table.number_of("mkdir")
                 self.assertTrue(comparison.of_numbers(X86_64, last, last).holds, (runtime, given))
 
-    def test_capabilities_need_an_engine(self):
-        name = self.file("p.json", profile())
-        for runtime, status in (("runc", 2), ("crun", 2), ("docker", 0), ("podman", 0)):
-            done = self.run_tool("ask", "--nr=0", "--runtime", runtime, "--caps", "none", name)
-            self.assertEqual((done[0], "takes a resolved one" in done[2]), (status, status == 2), done)
-
     def test_what_is_said_of_a_conflict(self):
         """Where it was given, --runtime isn't what is advised."""
         name = self.file("p.json", profile(
@@ -316,12 +310,6 @@ class Runtimes(Case):
         with self.assertRaisesRegex(profiles.Refused, "both defaultAction and linux"):
             runtimes.applied({"defaultAction": ERRNO, "linux": {"seccomp": profile()}}, "runc")
 
-    def test_a_whole_config(self):
-        """The engine has done its part: what it wouldn't read counts."""
-        given = config(profile(entry("mkdir"), defaultErrnoRet=38))
-        for runtime in ("runc", "docker"):
-            self.assertEqual(runtimes.applied(given, runtime).profile["defaultErrnoRet"], 38)
-
 
 def named(address):
     """The architecture of a record, as a profile names it."""
@@ -481,6 +469,8 @@ class Tools(Case):
         for words, line in (((), "ERRNO 1 default"), (("--caps", "docker,SYS_ADMIN"), "ALLOW 0 entry 0")):
             self.begins(0, line, self.run_tool("ask", "--runtime", "podman", *words, "--nr", "mount", path))
         self.is_refused("'X' isn't a capability", "ask", "--runtime", "podman", "--caps", "X", path)
+        for runtime in ("runc", "crun"):
+            self.is_refused("takes a resolved one", "ask", "--runtime", runtime, "--caps", "none", path)
 
     def test_a_bundle(self):
         parts = part("profile", json.dumps(self.given).encode()) + part("table", bytes_of(TABLE)) + \
