@@ -10,28 +10,20 @@ from scftools.model import profiles
 from scftools.forms import engines
 
 # Each member of a profile by a text in which a mark stands for its name, and what is found by the path of the right
-# member in what an engine makes of it.
-MEMBERS = {
-    "defaultAction": '{%s:"SCMP_ACT_LOG","syscalls":[{"names":["a"],"action":"B"}]}',
-    "architectures": '{"defaultAction":"A",%s:["SCMP_ARCH_ARM"]}',
-    "archMap": '{"defaultAction":"A",%s:[{"architecture":"SCMP_ARCH_X86_64","subArchitectures":[]}]}',
-    "architecture": '{"defaultAction":"A","archMap":[{%s:"SCMP_ARCH_X86_64","subArchitectures":[]}]}',
-    "subArchitectures": '{"defaultAction":"A","archMap":[{"architecture":"SCMP_ARCH_X86_64",%s:["S"]}]}',
-    "syscalls": '{"defaultAction":"A",%s:[{"names":["a"],"action":"B"}]}',
-    "names": '{"defaultAction":"A","syscalls":[{%s:["a"],"action":"B"}]}',
-    "name": '{"defaultAction":"A","syscalls":[{%s:"a","action":"B"}]}',
-    "action": '{"defaultAction":"A","syscalls":[{"names":["a"],%s:"B"}]}',
-    "errnoRet": '{"defaultAction":"A","syscalls":[{"names":["a"],"action":"B",%s:7}]}',
-    "args": '{"defaultAction":"A","syscalls":[{"names":["a"],"action":"B",%s:[{"index":1}]}]}',
-    "index": '{"defaultAction":"A","syscalls":[{"names":["a"],"action":"B","args":[{%s:1}]}]}',
-    "value": '{"defaultAction":"A","syscalls":[{"names":["a"],"action":"B","args":[{%s:1}]}]}',
-    "valueTwo": '{"defaultAction":"A","syscalls":[{"names":["a"],"action":"B","args":[{%s:1}]}]}',
-    "op": '{"defaultAction":"A","syscalls":[{"names":["a"],"action":"B","args":[{%s:"X"}]}]}',
-    "includes": '{"defaultAction":"A","syscalls":[{"names":["a"],"action":"B",%s:{"caps":["CAP_X"]}}]}',
-    "excludes": '{"defaultAction":"A","syscalls":[{"names":["a"],"action":"B",%s:{"arches":["amd64"]}}]}',
-    "caps": '{"defaultAction":"A","syscalls":[{"names":["a"],"action":"B","includes":{%s:["CAP_X"]}}]}',
-    "arches": '{"defaultAction":"A","syscalls":[{"names":["a"],"action":"B","includes":{%s:["arm"]}}]}',
-}
+# member in what an engine makes of it: members of the top, members of an entry, and all.
+OF_TOP = {"architectures": '%s:["SCMP_ARCH_ARM"]', "syscalls": '%s:[{"names":["a"],"action":"B"}]',
+          "archMap": '%s:[{"architecture":"SCMP_ARCH_X86_64","subArchitectures":[]}]',
+          "architecture": '"archMap":[{%s:"SCMP_ARCH_X86_64","subArchitectures":[]}]',
+          "subArchitectures": '"archMap":[{"architecture":"SCMP_ARCH_X86_64",%s:["S"]}]'}
+OF_ENTRY = {"names": '%s:["a"],"action":"B"', "name": '%s:"a","action":"B"', "action": '"names":["a"],%s:"B"',
+            **{name: '"names":["a"],"action":"B",' + text for name, text in {
+                "errnoRet": "%s:7", "args": '%s:[{"index":1}]', "op": '"args":[{%s:"X"}]',
+                **dict.fromkeys(("index", "value", "valueTwo"), '"args":[{%s:1}]'),
+                "includes": '%s:{"caps":["CAP_X"]}', "excludes": '%s:{"arches":["amd64"]}',
+                "caps": '"includes":{%s:["CAP_X"]}', "arches": '"includes":{%s:["arm"]}'}.items()}}
+MEMBERS = {"defaultAction": '{%s:"SCMP_ACT_LOG","syscalls":[{"names":["a"],"action":"B"}]}',
+           **{name: '{"defaultAction":"A",' + text + "}" for name, text in OF_TOP.items()},
+           **{name: '{"defaultAction":"A","syscalls":[{%s}]}' % text for name, text in OF_ENTRY.items()}}
 
 
 def spellings(name, drawn):
