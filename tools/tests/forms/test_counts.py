@@ -108,8 +108,7 @@ class Hot(Case):
             self.assertEqual(self.compiled(text), (0, compiled(PARTS + counts(entries)), ""), text)
 
     def test_syscalls_that_linux_always_allows(self):
-        """They aren't counted, where Linux has a bitmap of them; one with a condition or another answer is, and all are
-        for an older kernel."""
+        """They aren't counted; one with a condition or another answer is, and all are for a kernel without a bitmap."""
         entries = [{"names": ["c31", "c104"], "action": "SCMP_ACT_ALLOW"},
                    {"names": ["c236"], "action": "SCMP_ACT_ALLOW",
                     "args": [{"index": 0, "value": 1, "op": "SCMP_CMP_EQ"}]},

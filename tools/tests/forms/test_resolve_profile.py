@@ -303,8 +303,7 @@ class Hostile(MeasuredCase):
         return self.file("given", b"".join(data * count for data, count in pieces))
 
     def ends(self, path, status, says, words=("--keep-first",)):
-        """Ends so within the time, in bounded memory, without a traceback, and says no control character; what it
-        printed and said."""
+        """What it prints and says that ends so in time and bounded memory, without a traceback or control character."""
         done = self.measured([tool("resolve-profile"), *words, "-"], path)
         text = done.err.decode()
         self.assertIn(done.status, status if isinstance(status, tuple) else (status,), text[-300:])

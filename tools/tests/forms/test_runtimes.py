@@ -72,8 +72,7 @@ def beside(filters, applied):
 
 class Runtimes(Case):
     def compared(self, runtime, seccomp, applied=None, filters=None):
-        """The verdict of a container's own filter beside what the tools say that the runtime makes of the profile, and
-        what they say."""
+        """The verdict of a container's own filter beside what the tools say that its runtime makes of a profile."""
         applied_profile = applied or runtimes.applied(seccomp, runtime)
         if filters is None:
             filters, why = filters_of(applied_profile.runtime.program, seccomp)
@@ -152,8 +151,7 @@ class Runtimes(Case):
         self.assertEqual(self.same("crun", architectures=["x86_64"]).profile["architectures"], [X86_64])
 
     def test_the_stub_of_runc(self):
-        """Its first number on each architecture is that behind the greatest that the profile names and libseccomp
-        knows."""
+        """Its first number on an architecture is that behind the greatest that is named and that libseccomp knows."""
         for names, first in ((["read"], 1), (["write", "lchown", "no_such"], 95), (["pread64", "mkdir"], 84)):
             given = {"defaultAction": TRAP, "architectures": [X86_64], "syscalls": [entry(*names)]}
             self.assertEqual(runtimes.applied(given, "runc").stub, {X86_64: first} if names != ["read"] else {})
@@ -429,8 +427,7 @@ class Drawn(Case):
 
 
 class Tools(Case):
-    """compare, ask and compile with --runtime, and the program alone with --reading, on entries that conflict by their
-    words."""
+    """compare, ask and compile with --runtime, ask with --reading, on entries that conflict by their words."""
 
     def setUp(self):
         super().setUp()
