@@ -204,6 +204,5 @@ def faulty_filters(filters: Sequence[Filter], fault: Fault) -> list[str]:
 
 def stack_refusals(filters: Sequence[Filter], fault: Fault | None) -> Iterator[str]:
     """Which filter of several causes a fault."""
-    files = faulty_filters(filters, fault) if fault is not None and len(filters) > 1 else []
-    if files:
-        yield f"the filter is {explanation.join_names(files)}"
+    if fault is not None and len(filters) > 1:
+        yield from (f"the filter is {name}" for name in faulty_filters(filters, fault))

@@ -99,14 +99,11 @@ class Processes(Confined):
 
 
 class Units(Case):
-    def setUp(self):
-        super().setUp()
-        os.chmod(self.file("bin/systemctl", f"#!/bin/sh\ncat <<'END'\n{SHOWN}END\n"), 0o755)
-        self.env = {**os.environ, "PATH": f"{self.folder}/bin:{os.environ['PATH']}"}
-
     def test_a_unit_stands_where_a_profile_does(self):
+        os.chmod(self.file("bin/systemctl", f"#!/bin/sh\ncat <<'END'\n{SHOWN}END\n"), 0o755)
+        env = {**os.environ, "PATH": f"{self.folder}/bin:{os.environ['PATH']}"}
         for words, says in ((["ask", "--nr", "ptrace", "unit:box.service"], "ERRNO 1 entry 0\n"),
                             (["lint", "unit:box.service"], "# findings"),
                             (["surface", "unit:box.service"], "denied 1")):
             with self.subTest(words):
-                self.assertIn(says, self.output_of(0, *words, env=self.env))
+                self.assertIn(says, self.output_of(0, *words, env=env))

@@ -79,14 +79,11 @@ class Others(Case):
 
 
 class Kubernetes(Case):
-    def setUp(self):
-        super().setUp()
-        self.plain = self.file("plain.json", SPEC)
-
     def is_plain(self, path):
         """Each tool takes an object as it takes its spec."""
+        plain = self.file("plain.json", SPEC)
         for words in (("ask", "--nr=socket", "--a0=AF_VSOCK"), ("compile",), ("lint",), ("resolve-profile",)):
-            done = [completed([tool(words[0]), *words[1:], path_given]) for path_given in (self.plain, path)]
+            done = [completed([tool(words[0]), *words[1:], path_given]) for path_given in (plain, path)]
             self.assertEqual([completed.returncode for completed in done], [0, 0], words)
             self.assertEqual(done[0].stdout, done[1].stdout, words)
             self.assertIn(f"{words[0]}: '{path}' is a SeccompProfile of Kubernetes: its spec is the profile\n",
