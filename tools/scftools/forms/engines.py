@@ -31,8 +31,7 @@ CAPABILITIES = (
     "SYS_ADMIN SYS_BOOT SYS_NICE SYS_RESOURCE SYS_TIME SYS_TTY_CONFIG MKNOD LEASE AUDIT_WRITE AUDIT_CONTROL SETFCAP "
     "MAC_OVERRIDE MAC_ADMIN SYSLOG WAKE_ALARM BLOCK_SUSPEND AUDIT_READ PERFMON BPF CHECKPOINT_RESTORE"
 ).split()
-# The machines that engines resolve profiles for: their names in `arches`, and the OCI names of their own syscalls, in
-# `archMap` and `architectures`.
+# The machines by their names in `arches`, with the OCI names of their own syscalls (`archMap`, `architectures`).
 MACHINE_NAMES = {row.machine: oci for oci, row in architectures.JUDGED.items() if row.machine}
 
 
@@ -41,8 +40,7 @@ def machine_here() -> str:
     return next(name for name, oci in MACHINE_NAMES.items() if oci == architectures.machine_architecture())
 
 
-# The members that an engine doesn't read of those that another one does: moby since version 23, moby 20.10, and
-# containers-common. Without an engine all are read.
+# The members that an engine doesn't read, and another one does: moby since 23, moby 20.10, and containers-common.
 ENGINES = {
     "docker": ("errno", "defaultErrno"),
     "docker-20.10": ("errno", "defaultErrno", "defaultErrnoRet", "flags", "listenerPath", "listenerMetadata"),
@@ -60,8 +58,7 @@ ERRNO_NAMES = (
     "ENAMETOOLONG EHOSTDOWN EHOSTUNREACH ENOTEMPTY EUSERS EDQUOT ESTALE EREMOTE ENOLCK ENOSYS EILSEQ ENOMEDIUM "
     "EMEDIUMTYPE EOVERFLOW ECANCELED EIDRM ENOMSG ENOTSUP EBADMSG ENOTRECOVERABLE EOWNERDEAD"
 ).split()
-# The most digits of a number that any member may have; the most letters of a stranger's text and the most texts of a
-# list that a note repeats; the most notes.
+# The most digits of a number; the most letters of a stranger's text and texts of a list in a note; the most notes.
 MAX_DIGITS, MAX_TOLD, MAX_LISTED, MAX_NOTES = 20, 64, 3, 1000
 
 

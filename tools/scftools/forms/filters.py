@@ -51,8 +51,7 @@ NOT_FILTERS = (
 )
 # Characters that no text has.
 NO_TEXT = Pattern(r"[\0-\x08\x0e-\x1a\x1c-\x1f\x7f]")
-# The instructions of a big-endian machine: the upper byte of the code, which is 0, stands first. No little-endian one
-# begins so.
+# The instructions of a big-endian machine: the code's upper byte, a 0, stands first, as in no little-endian one.
 BIG_ENDIAN = Pattern(rb"\0[^\0].{6}(?:\0.{7})*", re.S)
 
 

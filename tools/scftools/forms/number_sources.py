@@ -33,8 +33,7 @@ def _add(calls: dict[str, int], name: str, digits: str, base: int = 0, line: int
 
 
 def of_source_table(text: str, abis: Sequence[str]) -> dict[str, int]:
-    """The syscalls of syscall_64.tbl: its rows of a number, an ABI, a name and entry points. The rows of x86-64 are
-    `common` and `64`, those of x32 `common` and `x32`."""
+    """The syscalls in rows of syscall_64.tbl of these ABIs: `common` and `64` on x86-64, `common` and `x32` on x32."""
     calls: dict[str, int] = {}
     for line, row in enumerate(text.split("\n"), 1):
         fields = row.split("#", 1)[0].split(None, 3)
@@ -52,8 +51,7 @@ def of_source_table(text: str, abis: Sequence[str]) -> dict[str, int]:
 
 
 def calls_of(data: bytes, architecture: str = "x86_64") -> dict[str, int]:
-    """The syscalls of an architecture in a header such as asm/unistd_64.h, in its lines `#define __NR_NAME NUMBER`; or
-    in a table if no line defines anything."""
+    """The syscalls of an architecture in a header's lines `#define __NR_NAME NUMBER`, or if it has none in a table."""
     text, row = data.decode("utf-8", "surrogateescape"), BY_SOURCE[architecture]
     bare = HEADER_COMMENT.sub(lambda match: "\n" if "\n" in match[0] else " ", text)
     calls: dict[str, int] = {}

@@ -42,8 +42,7 @@ def read(word: str, options: Any = None) -> Filter | ProfileInput | Inspection:
 
 
 def read_stacks(words: Sequence[str], options: Any = None, compiles: bool = False) -> list[Filter] | Inspection:
-    """The stack that words name, oldest filter first; or the stacks of the one process. On request a profile stands for
-    the filter that scf compiles of it."""
+    """The stack that words name, oldest first, or the stacks of a process; on request also the filters of profiles."""
     if len(words) == 1 and is_process(words[0]):
         return read(words[0], options)  # type: ignore
     if any(map(is_process, words)):

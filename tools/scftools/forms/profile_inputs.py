@@ -149,8 +149,7 @@ def plain(data: bytes, name: str) -> bytes:
 
 
 def read_text(name: str, kind: str | None = None) -> bytes:
-    """The text of a profile: of a file, a pipe or standard input, or what a unit's settings describe. What is too long
-    is refused if a kind of inputs is given, and else by scf."""
+    """The text of a profile of a file, pipe or unit. One too long is refused if a kind is given, or else by scf."""
     if name.startswith(inputs.UNIT):
         from scfhost import units  # pylint: disable=import-outside-toplevel
 

@@ -42,8 +42,7 @@ TRIED: dict[str, tuple[str, dict[str, Sequence[str]]]] = {
 
 @functools.lru_cache(None)
 def taken_by(program_name: str) -> tuple[str, dict[str, Sequence[str]]]:
-    """The same of the installed runc, as it says (`runc features`, features-linux.md of the OCI runtime specification);
-    of one that doesn't, and of crun, what the tried version takes."""
+    """The same of the installed runc, as `runc features` says (OCI's features-linux.md); else of the tried version."""
     import subprocess  # pylint: disable=import-outside-toplevel
 
     if program_name != RUNC:
@@ -62,8 +61,7 @@ def taken_by(program_name: str) -> tuple[str, dict[str, Sequence[str]]]:
 
 @dataclass(frozen=True)
 class Runtime:
-    """A runtime by the name that a user gives it: the program, whose name is scf's of its reading, and the engine whose
-    default it is, which resolves a profile before."""
+    """A runtime by its users' name: the program, which names scf's reading, and the engine that resolves before."""
 
     name: str
     program: str
@@ -308,8 +306,7 @@ class _Application:
 
 
 def _number_in_tables(name: str, architecture: str) -> int | None:
-    """The number of a name in a table that comes with scf, as in a record; below 0 if only others have it, None if
-    none has."""
+    """A name's number in a table of scf's, as in a record; below 0 if only other tables have it, None if none has."""
     native = tables.architecture_table(NATIVE) or tables.Table(b"")
     numbers = tables.architecture_tables(JUDGED, native).numbers_of(name)
     if architecture in numbers:
