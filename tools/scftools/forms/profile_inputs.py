@@ -14,10 +14,6 @@ from ..model.profiles import SANDBOX, DerivedProfile, Origin
 from ..ask.explanation import join_names
 from . import engines, kubernetes
 
-TYPE_CHECKING = False
-if TYPE_CHECKING:
-    from .lists.sandboxes import Sandbox
-
 # What other commands print of a container, by members that it has, and what to take instead.
 INSPECTIONS = (
     ("crictl inspect", (b'"runtimeSpec"', b'"defaultAction"'), "its .info.runtimeSpec, as with jq"),
@@ -96,8 +92,8 @@ def stub_note(stub: dict[str, int]) -> str:
     return f"runc answers the numbers {join_names(firsts)}, above all that the profile names, with ENOSYS"
 
 
-def _sandbox_of(data: bytes) -> Sandbox | None:
-    """The sandbox whose list a text is; none of JSON and of a raw filter."""
+def _sandbox_of(data: bytes) -> Any:
+    """The `Sandbox` whose list a text is; None of JSON and of a raw filter."""
     if data.lstrip(b" \t\r\n")[:1] in (b"{", b"[") or b"\0" in data:
         return None
     from .lists import sandboxes  # pylint: disable=import-outside-toplevel
