@@ -154,10 +154,10 @@ def _short_errno(holder: dict[str, Any], name: str) -> dict[str, int]:
 
 
 class _Application:
-    """Makes what a runtime is given of a resolved profile, on a machine whose own architecture has this OCI name."""
+    """Makes what a runtime is given of a profile that was resolved in a setting."""
 
-    def __init__(self, runtime: Runtime, native: str):
-        self.runtime, self.native = runtime, native
+    def __init__(self, runtime: Runtime, setting: Setting):
+        self.runtime, self.setting, self.native = runtime, setting, engines.MACHINE_NAMES[setting.machine]
         self.is_runc = runtime.program == RUNC
         self.most_conditions = None if self.is_runc else CRUN_CONDITIONS
         self.library = libseccomp.installed()
@@ -301,8 +301,12 @@ class _Application:
                                 f"them: {excerpts(list(self.unknown))}")
         handed, places = libseccomp.with_rules(given, most=self.most_conditions)
         given_origins = [origin for entry, origin in entries if entry["names"]]
+        if self.setting.engine is not None and self.setting.source is not None:
+            names = ", ".join(capability[4:] for capability in self.setting.capabilities) or "none"
+            self.remarks.append(f"resolved for the capabilities of {self.setting.source}: {names}")
+        notes = dict.fromkeys([*resolved.notes[:engines.MAX_NOTES], *self.notes_on(given, given_origins)])
         return ProfileInput(self.read_as(handed), [given_origins[place] for place in places], self.stub_of(given),
-                            origins, self.runtime, given, self.remarks, list(self.notes_on(given, given_origins)))
+                            origins, self.runtime, given, self.remarks, list(notes))
 
 
 def _number_in_tables(name: str, architecture: str) -> int | None:
@@ -346,13 +350,7 @@ def applied(value: Any, name: str, setting: Setting | None = None, keeps_first: 
         # of a whole config.json the engine has done its part, and the other members aren't read
         setting = replace(setting, engine=None, ignored=None)
         _refuse_engines(engines.seccomp_of(value), runtime.program)
-    resolved = profile_inputs.resolved(value, setting, keeps_first)
-    given = _Application(runtime, engines.MACHINE_NAMES[setting.machine]).run(resolved)
-    names = ", ".join(capability[4:] for capability in setting.capabilities) or "none"
-    of_source = setting.engine is not None and setting.source is not None
-    remarks = [*given.remarks, *[f"resolved for the capabilities of {setting.source}: {names}"] * of_source]
-    notes = dict.fromkeys([*resolved.notes[:engines.MAX_NOTES], *given.notes])
-    return replace(given, remarks=remarks, notes=list(notes))
+    return _Application(runtime, setting).run(profile_inputs.resolved(value, setting, keeps_first))
 
 
 def as_read(value: dict[str, Any], judged: tables.Tables) -> tuple[bytes, tables.Tables]:
