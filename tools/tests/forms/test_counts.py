@@ -4,6 +4,7 @@ import os
 
 from support.common import X86_64, Case, filter_of, part, profile_of
 from support.on_parts import OnProgram, a_profile, a_table, bundle, ran
+from support.oci import ERRNO, condition, entry
 from support.worked import allowing
 from scftools.model import tables
 from scftools.model.architectures import AARCH64, I386, JUDGED, NATIVE
@@ -109,11 +110,8 @@ class Hot(Case):
 
     def test_syscalls_that_linux_always_allows(self):
         """They aren't counted; one with a condition or another answer is, and all are for a kernel without a bitmap."""
-        entries = [{"names": ["c31", "c104"], "action": "SCMP_ACT_ALLOW"},
-                   {"names": ["c236"], "action": "SCMP_ACT_ALLOW",
-                    "args": [{"index": 0, "value": 1, "op": "SCMP_CMP_EQ"}]},
-                   {"names": ["c237"], "action": "SCMP_ACT_LOG"}]
-        text = json.dumps({"defaultAction": "SCMP_ACT_ERRNO", "syscalls": entries})
+        text = json.dumps({"defaultAction": ERRNO, "syscalls": [
+            entry("c31", "c104"), entry("c236", args=[condition(0, "EQ", 1)]), entry("c237", action="SCMP_ACT_LOG")]})
         path, parts = self.file("q.json", text), bundle([a_profile(text), a_table(TABLE)])
         every = {"c31": 5, "c104": 900, "c236": 80, "c237": 40, "c238": 30}
         lines = "".join(f"{name} {count}\n" for name, count in every.items())

@@ -8,8 +8,7 @@ from support.confined import NEWEST, OLDEST, Confined, here
 from scftools.base import program
 from scftools.forms import filters, operands, profile_inputs
 
-# What `systemctl show` prints of a unit that denies ptrace, and of one that denies memory that can be executed on
-# x86-64 alone.
+# What `systemctl show` prints of a unit that denies ptrace.
 SHOWN = "Id=box.service\nLoadState=loaded\nSystemCallFilter=~ptrace:EPERM\nSystemCallErrorNumber=1\nSystemCallLog=~\n"
 
 

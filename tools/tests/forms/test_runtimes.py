@@ -309,12 +309,6 @@ class Runtimes(Case):
             runtimes.applied({"defaultAction": ERRNO, "linux": {"seccomp": profile()}}, "runc")
 
 
-def named(address):
-    """The architecture of a record, as a profile names it."""
-    return next(architecture.oci for architecture in JUDGED.values() if architecture.number == address.architecture
-                and architecture.first <= address.number <= architecture.last)
-
-
 class Drawn(Case):
     """Profiles drawn at random, as the runtimes load them: refused by both sides, or `same` over all records of each
     architecture, with the stub. scf refuses more, as conflicts."""
@@ -405,7 +399,7 @@ class Drawn(Case):
                 filters, why = filters_of(runtime, given)
                 self.assertIsNotNone(filters, why)
                 verdict = beside(filters, runtimes.applied(given, runtime)).run()[1].verdict
-                self.assertEqual((named(verdict.call), verdict.call.arguments[0], str(verdict.filters),
+                self.assertEqual((verdict.call.abi, verdict.call.arguments[0], str(verdict.filters),
                                   str(verdict.profile)), (architecture, first, of_filter, of_profile))
 
     def test_what_libseccomp_alone_refuses(self):
