@@ -146,14 +146,11 @@ def printed(profile: dict[str, Any]) -> str:
     return dumped(profile, 4) + "\n"
 
 
-# A member that the engine doesn't read: the object that has it, its name, and whether another engine reads it.
-Unread = tuple[str, str, bool]
-
-
-def read(value: Any, kind: Any, where: str, unread: Sequence[str], found: list[Unread]) -> Any:
-    """A value as an engine reads it: without members that are null, or that only another engine reads; what it doesn't
-    read is added to a list. Refuses a value that isn't an object, a list, a string, a number or a kernel version as the
-    engines read it, and an object that they read otherwise than it is spelled."""
+def read(value: Any, kind: Any, where: str, unread: Sequence[str], found: list[tuple[str, str, bool]]) -> Any:
+    """A value as an engine reads it: without members that are null, or that only another engine reads. What it doesn't
+    read is added to a list: the object, the member's name, and whether another engine reads it. Refuses a value that
+    isn't an object, a list, a string, a number or a kernel version as the engines read it, and an object that they read
+    otherwise than it is spelled."""
     if isinstance(kind, dict):
         if not isinstance(value, dict):
             raise Refused(f"{where} isn't an object")
@@ -281,7 +278,7 @@ class Resolver:
                    "comment": entry["comment"] if self.setting.keeps_comments else None}
         return {name: value for name, value in members.items() if value is not None} if names else None
 
-    def _tell_unread(self, found: Sequence[Unread]) -> None:
+    def _tell_unread(self, found: Sequence[tuple[str, str, bool]]) -> None:
         """Notes what nothing reads, and once each what only other engines do; refuses what may be a condition."""
         of_others: dict[str, str] = {}
         for where, name, is_known in found:
