@@ -130,20 +130,16 @@ def parse_json(data: bytes) -> Any:
         raise Refused(f"the profile isn't JSON: {profiles.malformed(error)}") from error
 
 
-def dumped(value: Any, indent: int | None = None) -> str:
-    """The JSON text of a profile or of what has one."""
+def to_bytes(profile: dict[str, Any], indent: int | None = None) -> bytes:
+    """The JSON of a profile or of what has one."""
     try:
-        return json.dumps(value, indent=indent)
+        return json.dumps(profile, indent=indent).encode()
     except RecursionError as error:
         raise Refused("the profile is nested too deep") from error
 
 
-def to_bytes(profile: dict[str, Any]) -> bytes:
-    return dumped(profile).encode()
-
-
 def printed(profile: dict[str, Any]) -> str:
-    return dumped(profile, 4) + "\n"
+    return f"{to_bytes(profile, 4).decode()}\n"
 
 
 def read(value: Any, kind: Any, where: str, unread: Sequence[str], found: list[tuple[str, str, bool]]) -> Any:
