@@ -5,7 +5,6 @@ Linux from 5.11 on answers syscalls that a filter always allows from a bitmap an
 """
 from __future__ import annotations
 
-
 from ..base import inputs, output, program
 from ..base.values import Pattern
 from ..model.answers import Answer
