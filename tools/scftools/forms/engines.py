@@ -343,10 +343,11 @@ def capabilities_in(mask: int) -> list[str]:
     return sorted(f"CAP_{name}" for bit, name in enumerate(CAPABILITIES) if mask >> bit & 1)
 
 
-def setting_of(caps: str, engine: str | None = None, machine: str | None = None, kernel: str | None = None) -> Setting:
-    """A container with these capabilities, by default on this machine and this kernel, of whose version two numbers
-    count. Raises Refused."""
-    held, kernel = capabilities_of(caps), kernel or os.uname().release
+def setting_of(caps: str | None, engine: str | None = None, machine: str | None = None,
+               kernel: str | None = None) -> Setting:
+    """A container with these capabilities or an engine's, by default on this machine and this kernel, of whose version
+    two numbers count. Raises Refused."""
+    held, kernel = capabilities_of((engine or "none") if caps is None else caps), kernel or os.uname().release
     version = re.match(r"([0-9]{1,9})\.([0-9]{1,9})", kernel)
     if not version:
         raise Refused(f"'{kernel}' isn't a kernel version such as 6.1")

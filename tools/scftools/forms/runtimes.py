@@ -331,18 +331,12 @@ def _refuse_engines(seccomp: Any, program_name: str) -> None:
                       f"{engine} --runtime {program_name}` for {engine} with {program_name}")
 
 
-def setting_of(runtime: Runtime | None, caps: str | None = None, machine: str | None = None) -> Setting:
-    """The container that a runtime's engine resolves a profile for, by default with its capabilities, and here."""
-    engine = None if runtime is None else runtime.engine
-    return engines.setting_of(engine or "none" if caps is None else caps, engine, machine)
-
-
 def applied(value: Any, name: str, setting: Setting | None = None, keeps_first: bool = False) -> ProfileInput:
     """The profile as the runtime of a name is given it, of a profile's value, or of a whole config.json, that
     `engines.parse_json` read; on request without later answers to a syscall. Raises Refused if the runtime, or the
     engine before it, refuses it or reads it otherwise than it is spelled."""
     runtime = RUNTIMES[name]
-    setting = setting or setting_of(runtime)
+    setting = setting or engines.setting_of(None, runtime.engine)
     is_config = isinstance(value, dict) and value.get("linux") is not None
     if is_config and value.get("defaultAction") is not None:
         raise Refused("both defaultAction and linux are at the top: is it a profile or a config.json?")
@@ -397,15 +391,16 @@ def text_of(name: str, options: Any) -> bytes:
 
 
 def input_in(data: bytes, name: str, options: Any, is_strict: bool | None = False) -> ProfileInput:
-    """The profile in what was read of an input, as a command line says that it is read, which is said. If `is_strict`
-    is None, nothing is said of members that nothing reads, nor of those that only engines do."""
+    """The profile in what was read of an input, as a command line has it read; prints what is to be known of that. If
+    `is_strict` is None, members that nothing reads, and that only engines do, are neither told nor refused."""
     runtime, caps, machine = words_of(options)
     if runtime is None and caps is None:
         given = ProfileInput(data) if is_strict is None else profile_inputs.profile_in(data, name, False, is_strict)
         return given.read_by(getattr(options, "runtime", None))
     # (what is no profile of an engine's is told before its capabilities)
     data = data if runtime is not None else profile_inputs.plain(data, name)
-    given = applied_in(data, name, runtime and runtime.name, setting_of(runtime, caps, machine), is_strict)
+    setting = engines.setting_of(caps, runtime and runtime.engine, machine)
+    given = applied_in(data, name, runtime and runtime.name, setting, is_strict)
     if runtime is None:
         more = "" if machine is None else f" --machine {machine}"
         given = replace(given, notes=(), remarks=[

@@ -282,7 +282,7 @@ class Runtimes(Case):
                 continue
             applied = runtimes.applied(engines.parse_json(inputs.read_input(path, "engine's profile")), name)
             # as the engine itself hands it on, its entries without effect among them
-            handed_on = engines.Resolver(runtimes.setting_of(applied.runtime)).resolved(json.loads(bytes_of(path)))
+            handed_on = engines.Resolver(engines.setting_of(None, name)).resolved(json.loads(bytes_of(path)))
             self.assertEqual(self.compared(name, handed_on, applied)[:2], ("same", name == "docker"), name)
 
     def test_without_the_library(self):
@@ -481,8 +481,7 @@ class VerifyProcess(Case):
 
     def test_the_default_profile_of_docker(self):
         self.skip_if(not os.path.exists(MOBY), "no profile of Docker's")
-        engine = engines.Resolver(runtimes.setting_of(runtimes.RUNTIMES["docker"]))
-        handed_on = engine.resolved(json.loads(bytes_of(MOBY)))
+        handed_on = engines.Resolver(engines.setting_of(None, "docker")).resolved(json.loads(bytes_of(MOBY)))
         with container("runc", config(handed_on)) as (process, why):
             self.assertIsNotNone(process, why)
             for words in ((), ("--calls",), ("--no-more",), ("--no-less",)):
