@@ -155,9 +155,8 @@ def wrong_word(text: str, fault: Fault | None) -> list[str]:
             if labels[label] > 1:
                 return [f"'{output.cut(label)}' is a label twice"]
         return []
-    statements = [f"the statement is '{output.cut(' '.join(parts[1:]))}'"
-                  for parts in itertools.islice(_statements(here), 2)]
-    return statements if len(statements) == 1 and fault.kind != "TooLong" else []
+    said = [f"the statement is '{output.cut(' '.join(parts[1:]))}'" for parts in itertools.islice(_statements(here), 2)]
+    return said if len(said) == 1 and fault.kind != "TooLong" else []
 
 
 def _of_assembler(text: str) -> bytes | None:

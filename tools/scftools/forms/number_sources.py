@@ -13,8 +13,7 @@ from ..model.constants import C_IDENTIFIER
 
 # A number, one with something added to it, or another syscall's name.
 VALUE = r"([0-9]+)|\([ \t]*(\w+)[ \t]*\+[ \t]*([0-9]+)[ \t]*\)|__NR_([A-Za-z_]\w*)"
-DEFINE = Pattern(rf"^[ \t]*#[ \t]*define[ \t]+__(?:ARM_)?NR_([A-Za-z_]\w*)[ \t]+(?:{VALUE})[ \t\r\f\v]*$",
-                 re.M | re.A)
+DEFINE = Pattern(rf"^[ \t]*#[ \t]*define[ \t]+__(?:ARM_)?NR_([A-Za-z_]\w*)[ \t]+(?:{VALUE})[ \t\r\f\v]*$", re.M | re.A)
 HEADER_COMMENT = Pattern(r"/\*.*?(?:\*/|\Z)|//[^\n]*", re.S)
 # The first row that isn't empty and no comment.
 FIRST_LINE = Pattern(r"^[ \t\r]*([^ \t\r\n#][^\n]*)", re.M)

@@ -109,8 +109,7 @@ def looks_like_profile(data: bytes) -> bool:
     text = data if data.startswith(b"{") else BEFORE_JSON.sub(b"", data, 1)
     first = text[1:].lstrip()[:4]
     is_object = text[:1] == b"{" and not (first[:1].isdigit() or first.startswith((b"{", b"(", b"BPF_")))
-    return is_object or IN_OTHER_FORMS.match(text) is not None or kubernetes.is_yaml(data) or \
-        _sandbox_of(data) is not None
+    return bool(is_object or IN_OTHER_FORMS.match(text) or kubernetes.is_yaml(data) or _sandbox_of(data))
 
 
 def plain(data: bytes, name: str) -> bytes:

@@ -127,8 +127,7 @@ def _of_member(fault: Fault, data: bytes) -> Iterator[str]:
     try:
         text = data.decode("utf-8")
         # (a number that scf doesn't take is none)
-        value = json.loads(text, parse_int=lambda digits: int(digits) if len(digits) <= LONGEST_NUMBER
-                           else float("nan"))
+        value = json.loads(text, parse_int=lambda word: int(word) if len(word) <= LONGEST_NUMBER else float("nan"))
         path = _path_of(value, profiles.reading_of(data))
         entries = [fault.numbers[name] for name in ("first", "second") if fault.kind == "Conflict"]
         places = [json_places.place_of(text, [*path, "syscalls", entry]) for entry in entries]

@@ -356,8 +356,7 @@ def as_read(value: dict[str, Any], judged: tables.Tables) -> tuple[bytes, tables
     return given.data, replace(judged, stub=given.stub)
 
 
-def applied_in(data: bytes, path: str, name: str | None, setting: Setting,
-               is_strict: bool | None = False) -> ProfileInput:
+def applied_in(data: bytes, path: str, name: str | None, setting: Setting, is_strict: bool | None) -> ProfileInput:
     """The profile that was read of a file, as a runtime is given it, or without one as an engine resolves it; ends the
     tool where it refuses it, or if strict for members that nothing reads; without a word on these if that is None."""
     data = profile_inputs.plain(data, path)
