@@ -13,7 +13,7 @@ from collections.abc import Iterable, Iterator, Sequence
 from scftools.base import child
 from scftools.model import tables
 from scftools.model.architectures import JUDGED
-from scftools.forms.stacks import Stack
+from scftools.forms.filters import Stack
 from scftools.report.pages import ShownSurface
 from . import hold, machine, machine_pass
 from .audit_judge import Judges, Task

@@ -14,7 +14,7 @@ from scftools.model.bundles import stack_bundle
 from scftools.model.profiles import not_compared_of
 from scftools.ask import client, verdicts
 from scftools.ask.verdicts import NO_LESS, NO_MORE, OTHERWISE, SAME, Verdict
-from scftools.forms.stacks import Stack
+from scftools.forms.filters import Stack
 from scftools.report import compare_output, surfaces
 from scftools.report.compare import Pair
 from scftools.report.pages import ShownSurface

@@ -10,7 +10,7 @@ from scftools.base.values import dataclass, field
 from scftools.model.profiles import not_compared_of, reading_of
 from scftools.ask.verdicts import OTHERWISE, Verdict
 from scftools.forms import engines
-from scftools.forms.stacks import description
+from scftools.forms.filters import description
 from scftools.report.pages import ShownSurface
 from .container_files import ContainerDescription
 from .machine import Process, Snapshot

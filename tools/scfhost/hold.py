@@ -15,7 +15,7 @@ from collections.abc import Callable
 from scftools.base import child
 from scftools.base.values import unless_refused
 from scftools.model.bpf import BPF_MAXINSNS, INSTRUCTION
-from scftools.forms.stacks import called
+from scftools.forms.filters import called
 from . import restart
 from .ptrace import (PTRACE_DETACH, PTRACE_EVENT_STOP, PTRACE_INTERRUPT, PTRACE_SECCOMP_GET_FILTER, PTRACE_SEIZE,
                      Kernel, contents, has_ended)

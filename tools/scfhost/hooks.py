@@ -24,7 +24,7 @@ from scftools.base.values import Any, dataclass, unless_refused
 from scftools.model import profiles
 from scftools.ask import verdicts
 from scftools.forms import engines
-from scftools.forms.stacks import Inspection
+from scftools.forms.filters import Inspection
 from . import configurations, containers, hold, processes, verify
 from .configurations import ContainerError
 from .processes import Kernel

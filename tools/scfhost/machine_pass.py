@@ -13,7 +13,7 @@ from collections.abc import Callable, Iterable, Iterator, Sequence
 
 from scftools.base import child
 from scftools.base.values import Any
-from scftools.forms.stacks import Inspection, Stack, called
+from scftools.forms.filters import Inspection, Stack, called
 from . import processes
 from .hold import Unreadable
 from .ptrace import contents, is_executing

@@ -12,7 +12,7 @@ from collections.abc import Callable
 from scftools.base import child, output, program
 from scftools.base.child import Interrupted
 from scftools.base.values import Any
-from scftools.forms.stacks import Inspection, Stack, called
+from scftools.forms.filters import Inspection, Stack, called
 from .containers import Container, container_of
 from .hold import Ended, Hold, Unreadable, Waiting, stack_of, why_no_filters
 from .ptrace import Kernel, is_executing

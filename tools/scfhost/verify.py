@@ -9,9 +9,8 @@ from scftools.base.values import Any, dataclass, field, replace
 from scftools.model import profiles, tables
 from scftools.ask import explanation, questions, verdicts
 from scftools.forms import engines, filters, runtimes
-from scftools.forms.filters import Filter
+from scftools.forms.filters import Filter, Inspection, Stack
 from scftools.forms.profile_inputs import ProfileInput
-from scftools.forms.stacks import Inspection, Stack
 from scftools.report.blocks import OF_ALL, blocks_of, of_threads
 from scftools.report.compare import pair_of
 from scftools.report.compare_output import Judgement, comparison_json, comparison_notes

@@ -34,7 +34,7 @@ import tempfile
 from scftools.base import inputs, output, program
 from scftools.cli import words
 from scftools.forms import c_arrays, filter_loads, filters, strace
-from scftools.forms.stacks import Stack, called, threads_text
+from scftools.forms.filters import Stack, called, threads_text
 from scftools.logs import tracing
 from .. import processes
 

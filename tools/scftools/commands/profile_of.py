@@ -113,7 +113,7 @@ from ..ask import explanation, verdicts
 from ..ask.client import Refusal
 from ..cli import words
 from ..forms import engines, filters, kubernetes, operands, profile_inputs, runtimes
-from ..forms.stacks import Inspection
+from ..forms.filters import Inspection
 from ..report import profile_of
 from ..report.blocks import Block, of_threads, put_blocks
 

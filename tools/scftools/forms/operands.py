@@ -9,9 +9,8 @@ from ..base.values import Any
 from ..model import tables
 from ..ask import client
 from . import filters, profile_inputs
-from .filters import Filter
+from .filters import Filter, Inspection
 from .profile_inputs import ProfileInput
-from .stacks import Inspection
 
 
 def is_process(word: str) -> bool:

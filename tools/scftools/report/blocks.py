@@ -6,8 +6,7 @@ from collections.abc import Callable, Iterable, Iterator, Sequence
 from ..base import output, program
 from ..base.values import Any, dataclass, replace
 from ..ask import client, explanation
-from ..forms.filters import Filter
-from ..forms.stacks import Inspection, Stack, threads_text
+from ..forms.filters import Filter, Inspection, Stack, threads_text
 
 # The sources of faults that no stack causes.
 OF_ALL = ("profile", "table", "number", "command", "input")

@@ -12,9 +12,8 @@ from scftools.base import program
 from scftools.model import tables
 from scftools.ask import client
 from scftools.ask.client import Run
-from scftools.forms.filters import Filter
+from scftools.forms.filters import Filter, Stack
 from scftools.forms.profile_inputs import ProfileInput
-from scftools.forms.stacks import Stack
 from scftools.report import compare
 from scfhost import audit_judge, audit_rows
 from scfhost.expectations import Options

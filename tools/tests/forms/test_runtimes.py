@@ -355,9 +355,9 @@ class Drawn(Case):
                 except profiles.Refused:
                     continue
                 judged = tables.tables_of_profile(applied.data, tables.read_table(None))
-                for name in judged.of:
-                    words = by_words(json.loads(applied.data), runtime, name, JUDGED[name].bits)
-                    counts[self.compared_readings(applied, replace(judged, of={name: judged.of[name]}), json.dumps(words).encode())] += 1
+                for name, table in judged.of.items():
+                    words = json.dumps(by_words(json.loads(applied.data), runtime, name, JUDGED[name].bits)).encode()
+                    counts[self.compared_readings(applied, replace(judged, of={name: table}), words)] += 1
         self.assertGreater(min(counts.values()), 25)
 
     def compared_readings(self, applied, judged, words):

@@ -19,7 +19,7 @@ from scftools.base.values import replace
 from scftools.model import tables
 from scftools.model.profiles import not_compared_of
 from scfhost import audit, audit_judge, audit_output, audit_rows, container_files, machine, sandbox_programs
-from scftools.forms.stacks import Stack
+from scftools.forms.filters import Stack
 from scfhost.expectations import Expectations, Options, RowMaker
 
 # What is configured for containers, the same with another errno, and with one syscall more that is denied.

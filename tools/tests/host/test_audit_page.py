@@ -11,7 +11,7 @@ from support.common import ALLOW, EPERM, Case, completed, filter_of, gate, insn,
 from host.test_audit import process
 from scftools.model import tables
 from scftools.ask import verdicts
-from scftools.forms import stacks
+from scftools.forms.filters import Stack
 from scftools.forms.profile_inputs import ProfileInput
 from scftools.report import compare, compare_output, pages, surfaces
 from scfhost import audit_output, audit_rows, container_files, machine
@@ -72,7 +72,7 @@ class Pages(Case):
         table = tables.read_table(None)
         container = container_files.ContainerDescription("i" * 64, "podman", "crun", 7, HOSTILE, name=HOSTILE,
                                                          image=HOSTILE, pod=HOSTILE)
-        stack = stacks.Stack((filter_of([0, 41]),), False, {7: [7]})
+        stack = Stack((filter_of([0, 41]),), False, {7: [7]})
         seven, eight = process(name=os.fsencode(HOSTILE)), process(8)
         asked = compare.Comparison(stack.named, ProfileInput(profile_of("read")), table)
         verdict = asked.run(verdicts.NATIVE_SCOPE, verdicts.NO_MORE)[1].verdict

@@ -15,7 +15,7 @@ from support.confined import CHILD, NEWEST, OLDEST, OTHER, Confined, children_of
 from support.containers import Box
 from support.own_machine import remove_groups, spec_of
 from scftools.forms import filters
-from scftools.forms.stacks import Stack
+from scftools.forms.filters import Stack
 from scfhost import containers
 
 filters_of = module("filters-of")

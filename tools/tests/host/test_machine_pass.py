@@ -9,7 +9,7 @@ from unittest import mock
 from support.common import ALLOW, Case, comes, ret
 from support.confined import NEWEST, OLDEST, processes
 from support.own_machine import ROOT
-from scftools.forms.stacks import Inspection, Stack
+from scftools.forms.filters import Inspection, Stack
 from scfhost import machine_pass
 
 

@@ -14,7 +14,7 @@ from support.confined import NEWEST, OLDEST, OTHER, Confined, FakeKernel, here, 
 from scftools.base import child as children
 from scftools.ask import verdicts
 from scftools.forms.profile_inputs import ProfileInput
-from scftools.forms.stacks import Inspection, Stack, threads_text
+from scftools.forms.filters import Inspection, Stack, threads_text
 from scfhost import hold, verify
 
 SEIZE, INTERRUPT, DETACH, GET = (ptrace.PTRACE_SEIZE, ptrace.PTRACE_INTERRUPT, ptrace.PTRACE_DETACH,

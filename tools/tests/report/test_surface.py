@@ -27,7 +27,7 @@ from scftools.base import output
 from scftools.model import answers, architectures, tables
 from scftools.model.calls import Call
 from scftools.ask import client, questions
-from scftools.forms import stacks
+from scftools.forms.filters import Inspection, Stack
 from scftools.report import blocks, surface_output, surfaces
 
 READ, WRITE, GETPID, SOCKET, EXIT_GROUP = 0, 1, 39, 41, 231
@@ -674,7 +674,7 @@ class Process(Confined):
                 (True, 4, "strict", "has no filter, but seccomp's strict mode"),
                 (False, 1, "unconfined", "has no filter: it isn't confined, and every syscall is allowed")):
             with self.subTest(verdict):
-                inspection, printed = stacks.Inspection([stacks.Stack((), is_strict, {7: [7]})], {7: b"x"}, {}), []
+                inspection, printed = Inspection([Stack((), is_strict, {7: [7]})], {7: b"x"}, {}), []
                 with mock.patch.object(output, "put_line", printed.append):
                     self.assertEqual(blocks.put_blocks(inspection, None, False), status)
                 self.assertEqual(printed, [verdict, f"# process 7 (x) {says}"])
