@@ -53,13 +53,67 @@ Examples:
     scf compile filter.s | scf surface -
 """
 from ..base import inputs, output, program
+from ..base.values import Pattern
 from ..model import bundles, tables
-from ..ask import client, explanation, verdicts
+from ..model.answers import ALLOW
+from ..model.architectures import JUDGED
+from ..ask import client, explanation, regions, verdicts
 from ..ask.client import Fault
 from ..cli import words
-from ..forms import counts, filters, refusals, runtimes
+from ..forms import filters, refusals, runtimes
 
 OF_PROFILES = ("native", "strict", "runtime", "caps", "machine", "hot")
+
+# A line of counts: NAME COUNT, or ARCH NAME COUNT; the greatest number that scf takes in a table, and so of counts.
+LINE = Pattern(r"(?:([a-z0-9-]+)[ \t]+)?([A-Za-z_][A-Za-z0-9_]*)[ \t]+([0-9]{1,18})")
+BY_NAME, GREATEST = {architecture.name: architecture for architecture in JUDGED.values()}, (1 << 30) - 1
+UNKNOWN = "names in the counts that were skipped because no table has them"
+
+
+def without_allowed(counts, profile, judged):
+    """The counts of what a filter runs for. Linux from 5.11 on answers syscalls that a filter always allows from a
+    bitmap and doesn't run the filter (kernel/seccomp.c, seccomp_cache_check_allow), where it has one: these take no
+    step. All of the counts, if scf doesn't list the regions of the profile."""
+    try:
+        listed = regions.regions_of_profile(profile, judged)
+    except client.Refusal:
+        return counts
+    kept = {}
+    for architecture, own in counts.items():
+        numbers, table = regions.Numbers(listed, architecture), judged.of[architecture.oci]
+        kept[architecture] = {name: count for name, count in own.items() if not architecture.has_bitmap or
+                              {region.answer for region in numbers.of(table.number_of(name))} != {ALLOW}}
+    return kept
+
+
+def read_counts(file, profile, judged, has_bitmap):
+    """The parts of a bundle with the counts of a file, divided if they are too great for scf; for a kernel with a
+    bitmap without the syscalls that the profile always allows there. Lines without ARCH are of the first of the tables;
+    syscalls that no table has are reported."""
+    counts, unknown = {}, {}
+    text = inputs.read_whole(file, "counts").decode("utf-8", "surrogateescape")
+    for number, line in enumerate(map(str.strip, text.split("\n")), 1):
+        match = LINE.fullmatch(line)
+        architecture = BY_NAME.get(match[1] or JUDGED[next(iter(judged.of))].name) if match else None
+        if architecture:
+            name, table = match[2], judged.of.get(architecture.oci)
+            if table is None or table.number_of(name) is None:
+                unknown[architecture.marked(name)] = None
+            else:
+                own = counts.setdefault(architecture, {})
+                own[name] = own.get(name, 0) + int(match[3])
+        elif line and not line.startswith("#"):
+            raise program.ToolError(f"line {number} of {inputs.label(file)} is neither NAME COUNT nor ARCH NAME COUNT: "
+                                    f"'{output.escaped(output.cut(line))}'")
+    if unknown:
+        program.say(f"{UNKNOWN}: {output.some(list(unknown), tables.MOST_LISTED)}")
+    if has_bitmap and counts:
+        counts = without_allowed(counts, profile, judged)
+    divisor = max((count for own in counts.values() for count in own.values()), default=0) // GREATEST + 1
+    # (a count above 0 stays so)
+    return [(f"counts-{architecture.kind}",
+             "".join(f"{name} {(count + divisor - 1) // divisor}\n" for name, count in own.items()).encode())
+            for architecture, own in counts.items() if own]
 
 
 def put(done, options, code, sentences=(), **members):
@@ -99,7 +153,7 @@ def main():
         return put(done, options, done.out, sentences)
     profile = runtimes.input_in(data, options.profile, options, options.strict)
     judged = profile.judged(tables.read_table(options.table), options.native)
-    hot = [] if options.hot is None else counts.read_counts(options.hot, profile.data, judged, not options.no_bitmap)
+    hot = [] if options.hot is None else read_counts(options.hot, profile.data, judged, not options.no_bitmap)
     done = client.run_scf(["compile", "--left-out", *judged.words],
                           bundles.profile_bundle(profile.data, judged, counts=hot))
     fault = None if done.status == program.SUCCESS else Fault.read(done.line)
