@@ -26,9 +26,71 @@ Examples:
 import re
 
 from ..base import inputs, output, program
-from ..model import architectures
+from ..base.values import Pattern
+from ..model import architectures, libseccomp
+from ..model.answers import FIRST_X32
+from ..model.constants import C_IDENTIFIER
 from ..cli import words
-from ..forms import number_sources
+
+# A number, one with something added to it, or another syscall's name.
+VALUE = r"([0-9]+)|\([ \t]*(\w+)[ \t]*\+[ \t]*([0-9]+)[ \t]*\)|__NR_([A-Za-z_]\w*)"
+DEFINE = Pattern(rf"^[ \t]*#[ \t]*define[ \t]+__(?:ARM_)?NR_([A-Za-z_]\w*)[ \t]+(?:{VALUE})[ \t\r\f\v]*$", re.M | re.A)
+HEADER_COMMENT = Pattern(r"/\*.*?(?:\*/|\Z)|//[^\n]*", re.S)
+# The first row that isn't empty and no comment.
+FIRST_LINE = Pattern(r"^[ \t\r]*([^ \t\r\n#][^\n]*)", re.M)
+# A count, numbers that mips reserves, and names in capital letters, such as SYSCALL_BASE, are no syscalls.
+NO_SYSCALL = Pattern(r"syscalls|(?:reserved|unused)[0-9]+|[^a-z]*")
+
+
+def add(calls, name, digits, base=0, line=None):
+    at = "" if line is None else f"line {line}: "
+    digits = digits.lstrip("0") or "0"
+    number = base + int(digits) if len(digits) <= 10 else FIRST_X32
+    if number >= FIRST_X32:
+        raise program.ToolError(f"{at}the number of {name} isn't below {FIRST_X32}")
+    if calls.setdefault(name, number) != number:
+        raise program.ToolError(f"{at}{name} has two numbers, {calls[name]} and {number}")
+
+
+def of_source_table(text, abis):
+    """The syscalls in rows of syscall_64.tbl of these ABIs: `common` and `64` on x86-64, `common` and `x32` on x32."""
+    calls = {}
+    for line, row in enumerate(text.split("\n"), 1):
+        fields = row.split("#", 1)[0].split(None, 3)
+        if not fields:
+            continue
+        if len(fields) < 3 or not re.fullmatch(r"[0-9]+", fields[0], re.A):
+            raise program.ToolError(f"line {line} has no number, ABI and name: '{row[:80]}'")
+        if fields[1] not in ("common", "64", "x32"):
+            raise program.ToolError(f"line {line}: the ABI '{fields[1][:80]}' isn't common, 64 or x32")
+        if not C_IDENTIFIER.fullmatch(fields[2]):
+            raise program.ToolError(f"line {line}: '{fields[2][:80]}' isn't a name")
+        if fields[1] in abis:
+            add(calls, fields[2], fields[0], 0, line)
+    return calls
+
+
+def calls_of(data, architecture):
+    """The syscalls of an architecture in a header's lines `#define __NR_NAME NUMBER`, or if it has none in a table."""
+    text, row = data.decode("utf-8", "surrogateescape"), architectures.BY_SOURCE[architecture]
+    bare = HEADER_COMMENT.sub(lambda match: "\n" if "\n" in match[0] else " ", text)
+    calls, bases = {}, dict(row.bases)
+    for name, digits, base, more, alias in DEFINE.findall(bare):
+        if NO_SYSCALL.fullmatch(name):
+            continue
+        if digits:
+            add(calls, name, digits)
+        elif base in bases:
+            add(calls, name, more, bases[base])
+        elif row.has_aliases and alias in calls:
+            add(calls, name, str(calls[alias]))
+    first = FIRST_LINE.search(text)
+    if not calls and row.abis and first and re.match(r"[0-9]+[ \t]+[A-Za-z0-9]+[ \t]", first[1]):
+        calls = of_source_table(text, row.abis)
+    if not calls:
+        raise program.ToolError("the header has no syscall: no line `#define __NR_NAME NUMBER`, and no row `NUMBER ABI "
+                                "NAME` as in syscall_64.tbl")
+    return calls
 
 
 def main():
@@ -46,11 +108,14 @@ def main():
                    "--libseccomp takes no HEADER, and prints x86-64's syscalls"))
     comment = options.comment
     if options.libseccomp:
-        version, calls = number_sources.of_libseccomp()
-        comment = comment or f"The x86-64 syscalls that libseccomp {version} knows."
+        library = libseccomp.Library()
+        # (x86-64's numbers end far below)
+        named = ((library.name_of(number), number) for number in range(4096))
+        calls = {name: number for name, number in named if name}
+        comment = comment or f"The x86-64 syscalls that libseccomp {library.version} knows."
     else:
         text = b"\n".join(inputs.read_whole(name, "header") for name in options.headers or ["-"])
-        calls = number_sources.calls_of(text, options.architecture)
+        calls = calls_of(text, options.architecture)
     if comment:
         output.put_line(f"# {comment}")
     for name, number in calls.items():
