@@ -286,7 +286,7 @@ class Parser(argparse.ArgumentParser):
         """Adds an option without a value, and what is said of it."""
         self.add_argument(name, action="store_true", help=text)
 
-    def value(self, name: str, metavar: str, text: str, **more: Any) -> None:
+    def value(self, name: str, metavar: str | None, text: str, **more: Any) -> None:
         """Adds an option or argument, what its value is called, and what is said of it."""
         self.add_argument(name, metavar=metavar, help=text, **more)
 

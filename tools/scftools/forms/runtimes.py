@@ -119,18 +119,16 @@ def add_option(parser: Parser, is_sandboxes: bool = False) -> None:
 def add_options(parser: Parser, without_caps: str = "podman for podman, or docker", is_sandboxes: bool = False) -> None:
     """Adds `--runtime`, and what says how an engine resolves a profile; without `--caps` for which capabilities."""
     add_option(parser, is_sandboxes)
-    parser.add_argument("--engine", choices=tuple(engines.ENGINES),
-                        help="the engine whose rules resolve the profile: Docker since 23.0, Docker 20.10 or podman "
-                             "[default: that of --runtime, or all members that one of them reads]")
-    parser.add_argument("--caps", metavar="LIST",
-                        help="the container's capabilities, such as CAP_KILL,SYS_ADMIN; docker, podman and none are "
-                             f"sets, as in docker,SYS_ADMIN [default: {without_caps}]")
-    parser.add_argument("--kernel", metavar="X.Y", help="the kernel that the engine runs on [default: this one]")
-    parser.add_argument("--arch-map", choices=("native", "all"),
-                        help="which architectures of archMap are passed on: the machine's own, or all [default: all, "
-                             "as the engine does]")
-    parser.add_argument("--ignore", metavar="MEMBER", action="append",
-                        help="ignore a member of entries that no engine reads, which may be a condition")
+    parser.value("--engine", None, "the engine whose rules resolve the profile: Docker since 23.0, Docker 20.10 or "
+                 "podman [default: that of --runtime, or all members that one of them reads]",
+                 choices=tuple(engines.ENGINES))
+    parser.value("--caps", "LIST", "the container's capabilities, such as CAP_KILL,SYS_ADMIN; docker, podman and none "
+                 f"are sets, as in docker,SYS_ADMIN [default: {without_caps}]")
+    parser.value("--kernel", "X.Y", "the kernel that the engine runs on [default: this one]")
+    parser.value("--arch-map", None, "which architectures of archMap are passed on: the machine's own, or all "
+                 "[default: all, as the engine does]", choices=("native", "all"))
+    parser.value("--ignore", "MEMBER", "ignore a member of entries that no engine reads, which may be a condition",
+                 action="append")
 
 
 def is_engines(options: Any) -> bool:
