@@ -55,7 +55,7 @@ def main():
     options = parser.parse_args()
     parser.one_standard_input(options.filters)
     if len(options.filters) == 1 and operands.is_process(options.filters[0]):
-        return put_blocks(operands.read(options.filters[0], options), lambda stack: whole(
+        return put_blocks(operands.read(options.filters, options), lambda stack: whole(
             [checked(bpf_filter.name, bpf_filter.data, len(stack) == 1) for bpf_filter in stack], "checked"),
                           options.json)
     blocks = []

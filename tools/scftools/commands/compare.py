@@ -57,7 +57,6 @@ from ..model import profiles, tables
 from ..ask import verdicts
 from ..cli import words
 from ..forms import operands, runtimes
-from ..forms.filters import Filter
 from ..forms.profile_inputs import ProfileInput
 from ..report import blocks, compare
 from ..report.compare_output import Judgement, comparison_notes
@@ -97,20 +96,18 @@ def wanted_of(options):
     """What judges it: filters, or the profiles of a unit."""
     if options.beside is not None or operands.is_process(options.profile):
         return [operands.read_stack(options.beside or [options.profile])]
-    given = operands.read(options.profile, options)
-    if isinstance(given, Filter):
-        return [[given]]
-    return [part for profile in (given, *(operands.read(name, options) for name in options.also))
+    given = operands.read([options.profile], options)
+    if isinstance(given, list):
+        return [given]
+    return [part for profile in (given, *(operands.read([name], options) for name in options.also))
             for part in profile.parts]
 
 
 def main():
     parser, options = read_words()
     inputs.kept = {} if options.html is not None else None
-    actual = operands.read_stacks(options.filters, options) if len(options.filters) > 1 else \
-        operands.read(options.filters[0], options)
-    actual = [actual] if isinstance(actual, Filter) else actual
-    wanted, table = wanted_of(options), tables.read_table(options.table)
+    actual, wanted = operands.read(options.filters, options), wanted_of(options)
+    table = tables.read_table(options.table)
     if not any(isinstance(side, ProfileInput) for side in (actual, *wanted)):
         parser.reject(*((getattr(options, name), f"--{name} speaks of a profile, and no side is one")
                         for name in ("caps", "verbose", "strict", "runtime", "machine", "also")))

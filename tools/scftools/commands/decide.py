@@ -86,15 +86,12 @@ def read_input(options):
     if options.kind is not None:
         name = options.words[0]
         return runtimes.input_in(runtimes.text_of(name, options), name, options, options.strict)
-    if len(options.words) > 1:
-        given = operands.read_stacks(options.words)
-    else:
-        given = operands.read(options.words[0], options)
+    given = operands.read(options.words, options)
     if not isinstance(given, ProfileInput):
         words.refuse(options, OF_PROFILES, f"speaks of a profile, and '{options.words[0]}' is none")
     elif options.steps or options.expect is not None:
         return [operands.compiled(options.words[0], given)]
-    return [given] if isinstance(given, operands.Filter) else given
+    return given
 
 
 def main():

@@ -49,7 +49,7 @@ def side_of(path, options):
     """What a word names: a process's filters, a filter, or a profile, as it is or as an engine or a runtime makes it;
     and what is left out of the profile."""
     if operands.is_process(path) and not options.profiles:
-        return operands.read(path, options), []
+        return operands.read([path], options), []
     data = profile_inputs.read_text(path, "engine's profile" if options.is_made else None)
     if not options.profiles and not profile_inputs.looks_like_profile(data):
         return [filters.filter_in(path, data)], []

@@ -80,9 +80,9 @@ def read_files(names, table, options):
     reading = runtimes.reading_of(options.runtime)
     for name in names:
         given = operands.read_stack([name]) if operands.is_process(name) else \
-            operands.read(name, types.SimpleNamespace(caps=options.caps))
+            operands.read([name], types.SimpleNamespace(caps=options.caps))
         if not isinstance(given, ProfileInput):
-            stack += given if isinstance(given, list) else [given]
+            stack += given
         elif profile is not None:
             raise program.ToolError(f"'{name}' is a second profile: give one, and filters")
         else:

@@ -17,10 +17,13 @@ def is_process(word: str) -> bool:
     return word.startswith(inputs.PROCESS)
 
 
-def read(word: str, options: Any = None) -> Filter | ProfileInput | Inspection:
-    """What a word names, by its beginning and else by the contents of the file; of a process the stacks. `options` say
-    how a profile is read (`runtime`, `caps`, `machine`, `strict`), and how a process (`force`, `json`), as far as the
-    command has that."""
+def read(words: Sequence[str], options: Any = None) -> list[Filter] | ProfileInput | Inspection:
+    """What words name: several a stack of filters, one what it is by its beginning, and else by the contents of the
+    file: a filter as a stack, a profile, or the stacks of a process. `options` say how a profile is read (`runtime`,
+    `caps`, `machine`, `strict`), and how a process (`force`, `json`), as far as the command has that."""
+    if len(words) > 1:
+        return read_stacks(words, options)
+    word = words[0]
     if is_process(word):
         from scfhost import processes  # pylint: disable=import-outside-toplevel
 
@@ -34,7 +37,7 @@ def read(word: str, options: Any = None) -> Filter | ProfileInput | Inspection:
         return given
     data = profile_inputs.read_text(word)
     if not word.startswith(inputs.UNIT) and not profile_inputs.looks_like_profile(data):
-        return filters.filter_in(word, data)
+        return [filters.filter_in(word, data)]
     from . import runtimes  # pylint: disable=import-outside-toplevel
 
     return runtimes.input_in(data, word, options, getattr(options, "strict", False))
@@ -43,13 +46,13 @@ def read(word: str, options: Any = None) -> Filter | ProfileInput | Inspection:
 def read_stacks(words: Sequence[str], options: Any = None, compiles: bool = False) -> list[Filter] | Inspection:
     """The stack that words name, oldest first, or the stacks of a process; on request also the filters of profiles."""
     if len(words) == 1 and is_process(words[0]):
-        return read(words[0], options)  # type: ignore
+        return read(words, options)  # type: ignore
     if any(map(is_process, words)):
         raise program.ToolError("a process stands alone, since its filters are a whole stack")
 
     def filter_of(word: str) -> Filter:
-        given = read(word, options)
-        return compiled(word, given) if isinstance(given, ProfileInput) else given  # type: ignore
+        given = read([word], options)
+        return compiled(word, given) if isinstance(given, ProfileInput) else given[0]  # type: ignore
 
     return filters.read_stack(words, filter_of if compiles else filters.read_filter)
 

@@ -6,7 +6,7 @@ from unittest import mock
 from support.common import TABLE, Case, filter_of, profile_of
 from support.confined import NEWEST, OLDEST, Confined, here
 from scftools.base import program
-from scftools.forms import filters, operands, profile_inputs
+from scftools.forms import operands, profile_inputs
 
 # What `systemctl show` prints of a unit that denies ptrace.
 SHOWN = "Id=box.service\nLoadState=loaded\nSystemCallFilter=~ptrace:EPERM\nSystemCallErrorNumber=1\nSystemCallLog=~\n"
@@ -14,13 +14,13 @@ SHOWN = "Id=box.service\nLoadState=loaded\nSystemCallFilter=~ptrace:EPERM\nSyste
 
 class Files(Case):
     def test_the_contents_of_a_file_say_what_it_is(self):
-        for name, data, kind in (("a", filter_of([0]), filters.Filter), ("b", b"ret #0x7fff0000\n", filters.Filter),
+        for name, data, kind in (("a", filter_of([0]), list), ("b", b"ret #0x7fff0000\n", list),
                                  ("c", profile_of("read"), profile_inputs.ProfileInput),
                                  ("d", b"2\nallowlist\nread\n", profile_inputs.ProfileInput),
-                                 ("pid:1", filter_of([0]), filters.Filter),
+                                 ("pid:1", filter_of([0]), list),
                                  ("unit:a", profile_of("read"), profile_inputs.ProfileInput)):
             with self.subTest(name), mock.patch.object(program, "say"):
-                self.assertIs(type(operands.read(self.file(name, data))), kind)
+                self.assertIs(type(operands.read([self.file(name, data)])), kind)
 
     def test_a_profile_stands_for_its_filter_where_that_is_wanted(self):
         profile, filter_ = self.file("p.json", profile_of("read")), self.file("f.bpf", filter_of([0]))
@@ -46,7 +46,7 @@ class Processes(Confined):
     @here
     def test_the_stacks_of_a_process(self):
         child = self.child([OLDEST, NEWEST], [])
-        inspection = operands.read(f"pid:{child.pid}")
+        inspection = operands.read([f"pid:{child.pid}"])
         self.assertEqual([(stack.filters, stack.threads) for stack in inspection.stacks],
                          [((OLDEST, NEWEST), {child.pid: child.threads[:1]}), ((), {child.pid: child.threads[1:]})])
         named = self.run_tool("surface", f"pid:{child.pid}")
