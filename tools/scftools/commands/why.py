@@ -77,7 +77,8 @@ TOLERANCE = 2.0
 def read_files(names, table, options):
     """The profile and the filters among some files, told apart by their first bytes: a profile is an object."""
     profile, stack = None, []
-    reading = runtimes.reading_of(options.runtime)
+    runtime = runtimes.RUNTIMES.get(options.runtime)
+    reading = runtime.program if runtime is not None else options.runtime or profiles.STRICT
     for name in names:
         given = operands.read_stack([name]) if operands.is_process(name) else \
             operands.read([name], types.SimpleNamespace(caps=options.caps))

@@ -103,18 +103,15 @@ class Macros:
                 values, end = dict(zip(parameters, arguments)), end + 1
                 # `##` joins what stands beside it
                 body = re.sub(r"\s*##\s*", "", re.sub(NAME, lambda word: values.get(word[0], word[0]), body))
-            pieces += text[at:match.start()], self._value(name, body, outer)
+            self._room -= len(body) + 1
+            if self._room < 0 or len(outer) > DEEPEST:
+                raise NotAnArray(TOO_LONG)
+            value, known = self.expanded(body, (*outer, name)), _known_number(name)
+            if known is not None and value_of(value) != known:
+                raise NotAnArray(f"'{name[:40]}' is {value[:40]}, which it isn't in the kernel's headers")
+            pieces += text[at:match.start()], value
             at = end
         return "".join([*pieces, text[at:]])
-
-    def _value(self, name: str, body: str, outer: tuple[str, ...]) -> str:
-        self._room -= len(body) + 1
-        if self._room < 0 or len(outer) > DEEPEST:
-            raise NotAnArray(TOO_LONG)
-        value, known = self.expanded(body, (*outer, name)), _known_number(name)
-        if known is not None and value_of(value) != known:
-            raise NotAnArray(f"'{name[:40]}' is {value[:40]}, which it isn't in the kernel's headers")
-        return value
 
 
 def _known_number(name: str) -> int | None:

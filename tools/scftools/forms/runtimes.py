@@ -106,11 +106,6 @@ RUNTIME_HELP = ("read the profile as this runtime does (RUNTIMES.md): runc, crun
                 "podman: also the engine's own list")
 
 
-def reading_of(name: str | None) -> str:
-    """scf's reading of a profile for what `--runtime` names."""
-    return RUNTIMES[name].program if name in RUNTIMES else name or profiles.STRICT
-
-
 def add_option(parser: Parser, is_sandboxes: bool = False) -> None:
     """Adds `--runtime`; with the reading of a profile that says what a program's own sandbox answers."""
     parser.add_argument("--runtime", choices=(*RUNTIMES, *[SANDBOX] * is_sandboxes), help=RUNTIME_HELP)
