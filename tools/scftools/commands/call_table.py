@@ -42,8 +42,7 @@ FIRST_LINE = Pattern(r"^[ \t\r]*([^ \t\r\n#][^\n]*)", re.M)
 NO_SYSCALL = Pattern(r"syscalls|(?:reserved|unused)[0-9]+|[^a-z]*")
 
 
-def add(calls, name, digits, base=0, line=None):
-    at = "" if line is None else f"line {line}: "
+def add(calls, name, digits, base=0, at=""):
     digits = digits.lstrip("0") or "0"
     number = base + int(digits) if len(digits) <= 10 else FIRST_X32
     if number >= FIRST_X32:
@@ -66,7 +65,7 @@ def of_source_table(text, abis):
         if not C_IDENTIFIER.fullmatch(fields[2]):
             raise program.ToolError(f"line {line}: '{fields[2][:80]}' isn't a name")
         if fields[1] in abis:
-            add(calls, fields[2], fields[0], 0, line)
+            add(calls, fields[2], fields[0], 0, f"line {line}: ")
     return calls
 
 

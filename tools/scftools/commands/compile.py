@@ -52,6 +52,8 @@ Examples:
     scf compile --caps docker --machine arm64 engine.json >arm64.bpf
     scf compile filter.s | scf surface -
 """
+from collections import Counter
+
 from ..base import inputs, output, program
 from ..base.values import Pattern
 from ..model import bundles, tables
@@ -78,19 +80,17 @@ def without_allowed(counts, profile, judged):
         listed = regions.regions_of_profile(profile, judged)
     except client.Refusal:
         return counts
-    kept = {}
-    for architecture, own in counts.items():
-        numbers, table = regions.Numbers(listed, architecture), judged.of[architecture.oci]
-        kept[architecture] = {name: count for name, count in own.items() if not architecture.has_bitmap or
-                              {region.answer for region in numbers.of(table.number_of(name))} != {ALLOW}}
-    return kept
+    numbers = {architecture: regions.Numbers(listed, architecture) for architecture, _ in counts}
+    return {(architecture, name): count for (architecture, name), count in counts.items() if not architecture.has_bitmap
+            or {region.answer for region in numbers[architecture].of(judged.of[architecture.oci].number_of(name))}
+            != {ALLOW}}
 
 
 def read_counts(file, profile, judged, has_bitmap):
     """The parts of a bundle with the counts of a file, divided if they are too great for scf; for a kernel with a
     bitmap without the syscalls that the profile always allows there. Lines without ARCH are of the first of the tables;
     syscalls that no table has are reported."""
-    counts, unknown = {}, {}
+    counts, unknown = Counter(), {}
     text = inputs.read_whole(file, "counts").decode("utf-8", "surrogateescape")
     for number, line in enumerate(map(str.strip, text.split("\n")), 1):
         match = LINE.fullmatch(line)
@@ -100,8 +100,7 @@ def read_counts(file, profile, judged, has_bitmap):
             if table is None or table.number_of(name) is None:
                 unknown[architecture.marked(name)] = None
             else:
-                own = counts.setdefault(architecture, {})
-                own[name] = own.get(name, 0) + int(match[3])
+                counts[architecture, name] += int(match[3])
         elif line and not line.startswith("#"):
             raise program.ToolError(f"line {number} of {inputs.label(file)} is neither NAME COUNT nor ARCH NAME COUNT: "
                                     f"'{output.escaped(output.cut(line))}'")
@@ -109,11 +108,11 @@ def read_counts(file, profile, judged, has_bitmap):
         program.say(f"{UNKNOWN}: {output.some(list(unknown), tables.MOST_LISTED)}")
     if has_bitmap and counts:
         counts = without_allowed(counts, profile, judged)
-    divisor = max((count for own in counts.values() for count in own.values()), default=0) // GREATEST + 1
-    # (a count above 0 stays so)
-    return [(f"counts-{architecture.kind}",
-             "".join(f"{name} {(count + divisor - 1) // divisor}\n" for name, count in own.items()).encode())
-            for architecture, own in counts.items() if own]
+    divisor, lines = max(counts.values(), default=0) // GREATEST + 1, {}
+    for (architecture, name), count in counts.items():
+        # (a count above 0 stays so)
+        lines.setdefault(architecture, []).append(f"{name} {(count + divisor - 1) // divisor}\n")
+    return [(f"counts-{architecture.kind}", "".join(its).encode()) for architecture, its in lines.items()]
 
 
 def put(done, options, code, sentences=(), **members):
