@@ -4,7 +4,7 @@ something else is refused, and named."""
 from __future__ import annotations
 
 import re
-from collections.abc import Iterator, Sequence
+from collections.abc import Callable, Iterator, Sequence
 
 from ..base import inputs, output, program
 from ..base.values import Any, Pattern, dataclass, field, replace
@@ -92,13 +92,17 @@ def stub_note(stub: dict[str, int]) -> str:
     return f"runc answers the numbers {join_names(firsts)}, above all that the profile names, with ENOSYS"
 
 
-def _sandbox_of(data: bytes) -> Any:
-    """The `Sandbox` whose list a text is; None of JSON and of a raw filter."""
+def sandbox_of(data: bytes) -> tuple[str, Callable[[bytes], Any]] | None:
+    """What the list of a sandbox is called that a text is, and its reader, which makes a `Policy` or raises ToolError;
+    None of JSON and of a raw filter."""
     if data.lstrip(b" \t\r\n")[:1] in (b"{", b"[") or b"\0" in data:
         return None
-    from .lists import sandboxes  # pylint: disable=import-outside-toplevel
+    from .lists import firejail, lxc, snapd  # pylint: disable=import-outside-toplevel
 
-    return sandboxes.sandbox_of(data)
+    signs = ((lxc.SIGN, "an LXC policy", lxc.read_lxc_policy),
+             (snapd.SIGN, "a snap's seccomp template", snapd.read_snap_template),
+             (firejail.SIGN, "a firejail profile", firejail.read_firejail_profile))
+    return next(((kind, read) for sign, kind, read in signs if sign.search(data)), None)
 
 
 def looks_like_profile(data: bytes) -> bool:
@@ -109,7 +113,7 @@ def looks_like_profile(data: bytes) -> bool:
     text = data if data.startswith(b"{") else BEFORE_JSON.sub(b"", data, 1)
     first = text[1:].lstrip()[:4]
     is_object = text[:1] == b"{" and not (first[:1].isdigit() or first.startswith((b"{", b"(", b"BPF_")))
-    return bool(is_object or IN_OTHER_FORMS.match(text) or kubernetes.is_yaml(data) or _sandbox_of(data))
+    return bool(is_object or IN_OTHER_FORMS.match(text) or kubernetes.is_yaml(data) or sandbox_of(data))
 
 
 def plain(data: bytes, name: str) -> bytes:
@@ -126,10 +130,14 @@ def plain(data: bytes, name: str) -> bytes:
             match = ID.search(data)
             instead = instead.replace("/ID/", f"/{match[1].decode()}/") if match else instead
             raise program.ToolError(f"{label} is what `{command}` prints: take {instead}")
-    sandbox = _sandbox_of(data)
-    if sandbox is not None:
-        profile, notes = sandbox.profile_of(data, label)
-        program.say(f"{label} is {sandbox.kind}: its rules are the profile", *engines.at_most(notes))
+    kind, read = sandbox_of(data) or ("", None)
+    if read is not None:
+        try:
+            policy = read(data)
+            profile, notes = policy.data(), list(policy.notes())
+        except program.ToolError as why:
+            raise program.ToolError(f"{label}, {kind}: {why}", why.status) from why
+        program.say(f"{label} is {kind}: its rules are the profile", *engines.at_most(notes))
         return profile
     try:
         spec = kubernetes.spec_of(data)

@@ -12,7 +12,8 @@ from support.common import ALLOW, EPERM, Case, bytes_of, completed, jeq, load, r
 
 from scftools.model import profiles
 from scftools.forms import filter_loads
-from scftools.forms.lists import firejail, sandbox_rules, sandboxes
+from scftools.forms.lists import firejail, lxc, sandbox_rules
+from scftools.forms.profile_inputs import sandbox_of
 
 NATIVE, I386, X32 = "SCMP_ARCH_X86_64", "SCMP_ARCH_X86", "SCMP_ARCH_X32"
 SNAP_SECCOMP = shutil.which("snap-seccomp", path=f"/usr/lib/snapd:{os.environ.get('PATH', '')}")
@@ -327,13 +328,13 @@ class Readers(unittest.TestCase):
     def test_what_is_no_list(self):
         for text in (b"", b"2\n", b"2\nlist\n", b"read\nwrite\n", b"# a\nread\n", b"seccompx\n", b"{}",
                      b"12\ndenylist\n"):
-            self.assertIsNone(sandboxes.sandbox_of(text), text)
+            self.assertIsNone(sandbox_of(text), text)
 
     def test_without_libseccomp(self):
         """The tables tell on which architectures a rule counts; a name that they lack stays."""
         for text in (b"2\ndenylist\n[x86]\nchown32 errno 1\n[all]\numount errno 1\nmknod errno 1\n",
                      b"2\ndenylist\nsocket errno 1\nshmat errno 1\n", b"@complain\nread\nsocket AF_UNIX\n"):
-            read = sandboxes.sandbox_of(text).read
+            read = sandbox_of(text)[1]
             expected = read(text)
             with mock.patch.object(sandbox_rules.libseccomp, "installed", return_value=None):
                 found = read(text)
@@ -344,14 +345,14 @@ class Readers(unittest.TestCase):
 
     def test_abis_with_other_rules(self):
         """Those of i386 are another profile of LXC's; of firejail they aren't known, unless it denies i386."""
-        (other,) = sandboxes.sandbox_of(b"2\ndenylist\n").read(b"2\ndenylist\nsocket errno 1\n").data().others
+        (other,) = sandbox_of(b"2\ndenylist\n")[1](b"2\ndenylist\nsocket errno 1\n").data().others
         self.assertEqual(profiles.architectures_of(other), (I386,))
         for text, left_out in ((b"seccomp.drop mkdir\n", (I386,)),
                                (b"seccomp.drop mkdir\nseccomp.block-secondary\n", ())):
-            self.assertEqual(profiles.not_compared_of(sandboxes.sandbox_of(text).read(text).data()), left_out)
+            self.assertEqual(profiles.not_compared_of(sandbox_of(text)[1](text).data()), left_out)
 
     def test_letters_that_forge_a_line(self):
         for text in (b"2\ndenylist\nread\rerrno 1\n", b"2\ndenylist\nread\0\n", b"2\ndenylist\n\xc2\x85\n",
                      b"2\ndenylist\n\xff\n", b"2\ndenylist\n" + b"a" * (1 << 15 | 1), b"2\ndenylist\n\xe2\x80\xa8"):
             with self.assertRaises(sandbox_rules.ListError, msg=text):
-                sandboxes.sandbox_of(text).read(text)
+                lxc.read_lxc_policy(text)

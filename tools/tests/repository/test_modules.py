@@ -21,9 +21,9 @@ DEAR = {"dataclasses", "inspect", "typing"}
 LATE = {"ast", "ctypes", "difflib", "glob", "hashlib", "importlib", "json", "pickle", "resource", "shlex", "signal",
         "subprocess", "syslog", "tempfile", "threading", "urllib.parse", "scfhost.processes", "scfhost.ptrace",
         "scfhost.units", "scftools.ask.questions", "scftools.ask.regions", "scftools.forms.filter_loads",
-        "scftools.forms.lists.sandboxes", "scftools.forms.refusals", "scftools.forms.runtimes", "scftools.logs.cores",
-        "scftools.report.pages", "scftools.report.region_output",
-        "scftools.report.row_conditions", "scftools.report.surface_output"}
+        "scftools.forms.lists.firejail", "scftools.forms.lists.lxc", "scftools.forms.lists.snapd",
+        "scftools.forms.refusals", "scftools.forms.runtimes", "scftools.logs.cores", "scftools.report.pages",
+        "scftools.report.region_output", "scftools.report.row_conditions", "scftools.report.surface_output"}
 
 # The packages of scftools in their order, and what looks at a process or a unit.
 ROOMS = "base model ask cli forms report lint logs commands".split()
