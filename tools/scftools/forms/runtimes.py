@@ -68,22 +68,15 @@ class Runtime:
     engine: str | None = None
 
 
-@dataclass(frozen=True)
 class OwnCalls:
     """What a runtime's program itself calls behind the filter before it executes the container's: as of which version;
     the calls without which no container starts if they are denied, or if they are answered by a kill; those of which
     the same is true without noNewPrivileges, where the filter is loaded earlier; and others."""
 
-    version: str
-    denied: tuple[str, ...]
-    killed: tuple[str, ...]
-    denied_early: tuple[str, ...]
-    killed_early: tuple[str, ...]
-    others: tuple[str, ...]
-
-    @property
-    def names(self) -> list[str]:
-        return sorted([*self.denied, *self.killed, *self.denied_early, *self.killed_early, *self.others])
+    def __init__(self, version: str, *listed: str):
+        self.version, kinds = version, [names.split() for names in listed]
+        self.denied, self.killed, self.denied_early, self.killed_early, _ = kinds
+        self.names = sorted(sum(kinds, []))
 
 
 # From the kernel's records of containers under a profile that logs, with and without noNewPrivileges, as root and as a
@@ -91,14 +84,11 @@ class OwnCalls:
 # that deny one of the calls, by EPERM, ENOSYS and a kill. runc is written in Go, whose own calls come and go; crun
 # waits for the start in pselect6 and read.
 OWN_CALLS = {
-    RUNC: OwnCalls("1.1.5", *map(tuple, map(str.split, (
-        "close execve fstatfs getdents64 openat write", "epoll_ctl getpid",
-        "capget capset chdir fstat getcwd getppid newfstatat prctl read setgid setgroups setuid", "faccessat2 fcntl",
-        "fchown futex")))),
-    CRUN: OwnCalls("1.8.1", *map(tuple, map(str.split, (
-        "execve", "close", "capset prctl rt_sigaction rt_sigprocmask setresgid setresuid write", "",
-        "pselect6 read")))),
-}
+    RUNC: OwnCalls("1.1.5", "close execve fstatfs getdents64 openat write", "epoll_ctl getpid", "capget capset chdir "
+                   "fstat getcwd getppid newfstatat prctl read setgid setgroups setuid", "faccessat2 fcntl",
+                   "fchown futex"),
+    CRUN: OwnCalls("1.8.1", "execve", "close", "capset prctl rt_sigaction rt_sigprocmask setresgid setresuid write",
+                   "", "pselect6 read")}
 RUNTIMES = {runtime.name: runtime
             for runtime in (Runtime(RUNC, RUNC), Runtime(CRUN, CRUN), Runtime("docker", RUNC, "docker"),
                             Runtime("podman", CRUN, "podman"))}
