@@ -144,7 +144,7 @@ def main():
     if not options.json:
         parser.keep_off_terminal()
     data = inputs.read_input(options.profile, "text") if options.kind else runtimes.text_of(options.profile, options)
-    if options.kind or filters.is_assembler(data):
+    if options.kind or data.isascii() and filters.is_assembler(data.decode("ascii")):
         words.refuse(options, OF_PROFILES, f"speaks of a profile, and '{options.profile}' is an assembler's text")
         done = client.run_scf(["asm"], data)
         sentences = () if done.status == program.SUCCESS else [

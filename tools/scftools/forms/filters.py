@@ -121,14 +121,9 @@ def _statements(line: str) -> Iterator[Sequence[str]]:
             yield statement.groups("")
 
 
-def first_word(text: str) -> str:
-    """The first word of a text in the assembler that isn't a label."""
-    return next((word for line in text.split("\n") for _, word, _ in _statements(line) if word), "")
-
-
-def is_assembler(data: bytes) -> bool:
-    """Whether bytes begin as a text in scf's assembler does."""
-    return data.isascii() and first_word(data[:LONGEST_TEXT].decode("ascii")) in MNEMONICS
+def is_assembler(text: str) -> bool:
+    """Whether the first word of a text that isn't a label is a mnemonic of scf's assembler."""
+    return next((word for line in text.split("\n") for _, word, _ in _statements(line) if word), "") in MNEMONICS
 
 
 def _unknown(word: str, kind: str, known: Sequence[str]) -> str:
@@ -160,7 +155,7 @@ def wrong_word(text: str, fault: Fault | None) -> list[str]:
 
 
 def _of_assembler(text: str) -> bytes | None:
-    if first_word(text) not in MNEMONICS:
+    if not is_assembler(text):
         return None
     done = client.run_scf(["asm"], text.encode())
     if done.status != program.SUCCESS:
