@@ -330,13 +330,10 @@ def applied(value: Any, name: str, setting: Setting | None = None, keeps_first: 
     return _Application(runtime, setting).run(profile_inputs.resolved(value, setting, keeps_first))
 
 
-def as_read(value: dict[str, Any], judged: tables.Tables) -> tuple[bytes, tables.Tables]:
-    """A resolved profile of this value and its tables as another one was read whose tables are given: with the rules
-    and the stub that the same runtime makes."""
-    if judged.reading in profiles.BY_WORDS:
-        return profiles.read_as(engines.to_bytes(value), judged.reading), judged
-    given = applied(value, judged.reading)
-    return given.data, replace(judged, stub=given.stub)
+def as_read(value: dict[str, Any], reading: str) -> ProfileInput:
+    """A resolved profile of this value in a reading: with the rules and the stub that its runtime makes."""
+    is_by_words = reading in profiles.BY_WORDS
+    return ProfileInput(profiles.read_as(engines.to_bytes(value), reading)) if is_by_words else applied(value, reading)
 
 
 def applied_in(data: bytes, path: str, name: str | None, setting: Setting, is_strict: bool | None) -> ProfileInput:

@@ -126,8 +126,8 @@ class Search:
         remaining = (replace(entry, names=tuple(name for name in entry.names if (entry.place, name) not in self.gone))
                      for entry in self.entries.values())
         syscalls = [entry.as_json() for entry in remaining if entry.names]
-        profile, judged = runtimes.as_read({**self.top, "syscalls": syscalls}, self.judged)
-        return verdicts.compared([self.filter], profile, judged).verdict
+        given = runtimes.as_read({**self.top, "syscalls": syscalls}, self.judged.reading)
+        return verdicts.compared([self.filter], given.data, replace(self.judged, stub=given.stub)).verdict
 
     def _why(self, entry: Entry, names: Sequence[str]) -> tuple[str, tuple[int, ...]]:
         """Why names of an entry have no effect, and the entries by which."""
