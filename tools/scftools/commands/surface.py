@@ -112,7 +112,7 @@ def read_words():
 def main():
     options = read_words()
     inputs.kept = {} if options.html is not None else None
-    machine = engines.MACHINE_NAMES[options.machine or engines.machine_here()]
+    machine = engines.MACHINE_NAMES.get(options.machine, architectures.machine_architecture())
     architecture = architectures.judged_in(options.arch or machine)
     of_engine = types.SimpleNamespace(caps=options.caps, machine=options.caps and options.machine, force=options.force,
                                       json=options.json)

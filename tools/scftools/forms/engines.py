@@ -12,7 +12,7 @@ import re
 from collections.abc import Iterator, Sequence
 
 from ..base import output
-from ..base.values import Any, dataclass, field
+from ..base.values import Any, dataclass, field, replace
 from ..model import architectures, profiles
 from ..model.answers import ACTIONS_WITH_DATA, Answer
 from ..model.entries import Object
@@ -33,13 +33,6 @@ CAPABILITIES = (
 ).split()
 # The machines by their names in `arches`, with the OCI names of their own syscalls (`archMap`, `architectures`).
 MACHINE_NAMES = {row.machine: oci for oci, row in architectures.JUDGED.items() if row.machine}
-
-
-def machine_here() -> str:
-    """The engines' name of this machine."""
-    return next(name for name, oci in MACHINE_NAMES.items() if oci == architectures.machine_architecture())
-
-
 # The members that an engine doesn't read, and another one does: moby since 23, moby 20.10, and containers-common.
 ENGINES = {
     "docker": ("errno", "defaultErrno"),
@@ -76,8 +69,8 @@ class Setting:
     ignored: Sequence[str] | None = ()
     # Where the capabilities come from, if no word names them.
     source: str | None = None
-    # One of MACHINE_NAMES.
-    machine: str = field(default_factory=machine_here)
+    # One of MACHINE_NAMES, by default this one's.
+    machine: str = field(default_factory=lambda: architectures.JUDGED[architectures.machine_architecture()].machine)
     # Whether each entry has a comment that stays: the lines of a sandbox's list.
     keeps_comments: bool = False
 
@@ -351,4 +344,5 @@ def setting_of(caps: str | None, engine: str | None = None, machine: str | None 
     version = re.match(r"([0-9]{1,9})\.([0-9]{1,9})", kernel)
     if not version:
         raise Refused(f"'{kernel}' isn't a kernel version such as 6.1")
-    return Setting(held, (int(version[1]), int(version[2])), engine=engine, machine=machine or machine_here())
+    setting = Setting(held, (int(version[1]), int(version[2])), engine=engine)
+    return setting if machine is None else replace(setting, machine=machine)
