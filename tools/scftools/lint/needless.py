@@ -82,15 +82,12 @@ def _takes_all(entry: Entry) -> bool:
 
 
 class Search:
-    """The entries of a profile, its filter for all architectures that are judged, and the names of entries that can be
-    left out."""
+    """The entries of a profile, its filter for all architectures that are judged, and names that can be left out."""
 
     def __init__(self, judged: Tables, top: Object, data: bytes, default: Answer, entries: Sequence[Entry]):
         self.judged, self.top, self.filter, self.default, self.met = judged, top, data, default, Met()
         self.entries = {entry.place: entry for entry in entries}
         self.gone: set[EntryName] = set()
-        # whether scf answered `same` for the profile without these
-        self.is_same_without = False
         self._having: dict[ArchitectureNumber, dict[EntryName, Entry]] = {}
         for entry in entries:
             for name in entry.names:
@@ -159,8 +156,7 @@ class Search:
 
     def run(self) -> Iterator[Finding]:
         """What is without effect, all together, by entry: whole entries are left out first, then names of others, from
-        the last on. If that is undecided, also of the profile with all entries as they are read here, it is said
-        once."""
+        the last on. If that is undecided, also with all entries as they are read here, it is said once."""
         of_others: list[tuple[Entry, list[str]]] = []
         for entry in reversed(self.entries.values()):
             needless = [name for name in entry.names if not self._has_effect(entry, name)]
@@ -184,12 +180,10 @@ class Search:
             names = [name for name in entry.names if (entry.place, name) in self.gone]
             if names:
                 yield self._finding(entry, names)
-        self.is_same_without = bool(self.gone)
 
 
 def _pairs(entries: Sequence[Entry], judged: Tables) -> Iterator[tuple[Entry, Entry, str, list[str]]]:
-    """Pairs of entries with different answers to one syscall, and the architectures that have it, in the order of the
-    second."""
+    """Pairs of entries with different answers to a syscall, in the order of the second, and where both have it."""
     having: dict[ArchitectureNumber, list[Entry]] = {}
     taken = {call for entry in entries if judged.reading not in BY_WORDS and _takes_all(entry)
              for name in entry.names for call in judged.numbers_of(name).items()}

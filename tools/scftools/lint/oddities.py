@@ -178,8 +178,7 @@ def _why_odd(number: int) -> str | None:
 
 
 def of_answers(top: Object) -> Iterator[Finding]:
-    """A default that allows; errnos that no program knows, or that the kernel changes; and actions that need a
-    supervisor or a tracer."""
+    """A default that allows; errnos that no program knows, or the kernel changes; actions that nobody waits for."""
     default = top["defaultAction"]
     if default in ALLOWING:
         yield Finding("default-allows", f"{default}: a syscall that no entry names is allowed", action=default)

@@ -8,7 +8,7 @@ from __future__ import annotations
 
 import functools
 from collections import Counter
-from collections.abc import Callable, Iterable, Iterator, Sequence
+from collections.abc import Iterable, Iterator, Sequence
 
 from ..base import output, program
 from ..base.values import Any, dataclass, field, replace
@@ -34,11 +34,6 @@ UNFINISHED_TEXT = "unfinished: it takes too many steps to follow the filters: --
 # How far a draft may be from the filters: it says all that a profile can; one answer for all calls of a number that the
 # filters give to some of them; the utmost answer.
 EXACT, CONSTANT, UTMOST = range(3)
-
-
-def found_once(find: Callable[..., Any]) -> Any:
-    """A method that finds something once for each of its arguments."""
-    return functools.cached_property(lambda self: functools.lru_cache(None)(functools.partial(find, self)))
 
 
 def nearest(word: int | None, is_permissive: bool, has_trap_data: bool) -> Answer:
@@ -84,6 +79,7 @@ class FilterAnswers:
         if self.is_unfinished:
             self.answers = [((None, FULL_SET),)] * len(self.numbers)
         self.covers = Covers(self.sets)
+        self.parts, self.untested = map(functools.lru_cache(None), (self._parts, self._untested))
         is_runc = runtime is not None and runtimes.RUNTIMES[runtime].program == runtimes.RUNC
         # the least number that runc's stub answers, or one that no table has
         self.end = self.stub_end if is_runc else FIRST_X32
@@ -100,8 +96,7 @@ class FilterAnswers:
         return [(number, answers) for number, answers in zip(self.numbers, self.answers)
                 if number < self.end and bool(self.table.names_of(number)) == are_named]
 
-    @found_once
-    def parts(self, answers: Answers, is_permissive: bool) -> dict[Answer, int]:
+    def _parts(self, answers: Answers, is_permissive: bool) -> dict[Answer, int]:
         """A profile's answers to the calls of a number with their arguments, the utmost first. Raises TooMany."""
         order = sorted(((nearest(word, is_permissive, self.has_trap_data), arguments) for word, arguments in answers),
                        key=lambda part: DISPOSITIONS.index(part[0].disposition), reverse=is_permissive)
@@ -119,8 +114,7 @@ class FilterAnswers:
         return next((answer for answer in known_answers if answer != nearest(answer.word, True, self.has_trap_data)),
                     None)
 
-    @found_once
-    def untested(self, answers: Answers) -> str | None:
+    def _untested(self, answers: Answers) -> str | None:
         """Why the answers to a number depend on something that no condition tests, or None. Raises TooMany."""
         if self.is_unfinished:
             return "it is unfinished"
@@ -248,8 +242,7 @@ FARTHER = {NO_LESS: "more permissive", NO_MORE: "stricter"}
 
 @dataclass(frozen=True)
 class ProvedProfile:
-    """A profile of which scf proved how permissive it is beside the filters, and the syscalls in the table that aren't
-    proved to get the same answer."""
+    """A profile that scf proved to have relations to filters, and the calls not proved to get the same answer."""
 
     profile: dict[str, Any]
     relations: tuple[str, ...]
@@ -357,8 +350,7 @@ def _differences(answers: FilterAnswers, proved: ProvedProfile) -> Iterator[str]
 
 
 def _covered(answers: FilterAnswers, *proved: ProvedProfile) -> Iterator[str]:
-    """The architectures that profiles list, if several, and those others of which scf doesn't prove that the filters
-    deny every syscall."""
+    """The architectures that profiles list, if several, and others whose syscalls aren't all proved to be denied."""
     listed = proved[0].profile["architectures"] if proved else [answers.architecture.oci]
     data = [bpf_filter.data for bpf_filter in answers.filters]
     accesses = [questions.abi_access(data, answers.regions, JUDGED[name]) for name in answers.others

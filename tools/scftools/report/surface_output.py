@@ -146,8 +146,7 @@ def _cell(rows: Sequence[Row], width: int) -> list[str]:
 
 
 def _in_columns(cells: dict[str, dict[str, Callable[[int], list[str]]]], next_to: int, width: int) -> Iterator[str]:
-    """Groups of cells, each behind its group and a word, which may be empty, in a column that is so wide; or below
-    these, where it would be narrow."""
+    """Groups of cells, each behind its group and a word, if any, in a column so wide; or below, if they'd be narrow."""
     before = max(map(len, cells), default=0) + 2
     is_narrow = width - before - next_to < LEAST_WIDTH
     for heading, by_word in cells.items():
@@ -248,8 +247,7 @@ class Pair:
 
 @dataclass(frozen=True)
 class Beside:
-    """Two surfaces over one table, and whether some numbers that the table doesn't name, or syscalls of other ABIs, get
-    different answers."""
+    """Two surfaces over one table, and whether numbers without a name, or syscalls of other ABIs, differ in answers."""
 
     sides: tuple[Surface, Surface]
     pairs: tuple[Pair, ...] = ()
