@@ -11,7 +11,7 @@ from collections import Counter
 from collections.abc import Iterable, Iterator, Sequence
 
 from ..base import output, program
-from ..base.values import Any, dataclass, field, replace
+from ..base.values import Any, dataclass, replace
 from ..model import architectures, constants, profiles, tables
 from ..model.answers import ACTIONS_WITH_DATA, DISPOSITIONS, ENOSYS, FIRST_X32, Answer
 from ..model.architectures import JUDGED, Architecture
@@ -166,18 +166,14 @@ class FilterAnswers:
         return self.comparison(profile, relation).calls_of(self.architecture.oci)
 
 
-@dataclass
 class Draft:
     """A profile that is nowhere stricter, or nowhere more permissive, than the filters are thought to be."""
 
-    filters: FilterAnswers
-    is_permissive: bool
-    # how far it is from the filters, by number; None stands for the numbers that the table doesn't name
-    levels: dict[int | None, int] = field(default_factory=dict)
-
-    @property
-    def utmost(self) -> Answer:
-        return EVERYTHING if self.is_permissive else NOTHING
+    def __init__(self, filters: FilterAnswers, is_permissive: bool):
+        self.filters, self.is_permissive = filters, is_permissive
+        self.utmost = EVERYTHING if is_permissive else NOTHING
+        # how far it is from the filters, by number; None stands for the numbers that the table doesn't name
+        self.levels: dict[int | None, int] = {}
 
     def default(self) -> Answer:
         """The default: of the utmost answers to numbers without a name the one that most numbers get."""

@@ -104,26 +104,19 @@ class Row:
         return next((shown.answer for shown in self.examples.values()), None)
 
 
-@dataclass
 class Unnamed:
-    """How many numbers have no name, how many of them aren't always denied, and how many are undecided."""
+    """How many numbers have no name, how many of them aren't always denied, and how many are undecided; whether all are
+    always allowed; and an example that isn't denied. Given rows, each with how many are answered as its syscalls."""
 
-    count: int
-    not_denied: int = 0
-    undecided: int = 0
-    # whether all of them are always allowed
-    are_allowed: bool = True
-    # an example that isn't denied
-    shown: Shown | None = None
-
-    def add(self, row: Row, count: int) -> None:
-        """Adds numbers whose syscalls are answered as those of a row."""
-        self.are_allowed = self.are_allowed and row.possible == {ALLOWED}
-        if row.examples.keys() - {DENIED} or DENIED not in row.possible:
-            self.not_denied += count
-            self.shown = self.shown or row.examples.get(ALLOWED) or row.examples.get(DELEGATED)
-        elif row.possible != {DENIED}:
-            self.undecided += count
+    def __init__(self, count: int, rows: Iterable[tuple[Row, int]]):
+        self.count, self.not_denied, self.undecided, self.are_allowed, self.shown = count, 0, 0, True, None
+        for row, count in rows:
+            self.are_allowed = self.are_allowed and row.possible == {ALLOWED}
+            if row.examples.keys() - {DENIED} or DENIED not in row.possible:
+                self.not_denied += count
+                self.shown = self.shown or row.examples.get(ALLOWED) or row.examples.get(DELEGATED)
+            elif row.possible != {DENIED}:
+                self.undecided += count
 
     def describe(self) -> str:
         if self.are_allowed:
@@ -208,10 +201,9 @@ def of_regions(filters: Sequence[bytes], filter_regions: Sequence[Region] | None
         _ask(asker, rows)
     foreign = [questions.abi_access(filters, filter_regions, abi)
                for abi in (questions.OF_MACHINES[architecture.oci] if is_machine else ())]
-    unnamed = Unnamed(architecture.last - architecture.first + 1 - len(table.numbers()))
-    for number, count, here in numbers.unnamed(table):
-        unnamed.add(Row(number, [], architecture, here), count)
-    return Surface(asker, table, filter_regions, rows, foreign, unnamed)
+    unnamed = ((Row(number, [], architecture, here), count) for number, count, here in numbers.unnamed(table))
+    count = architecture.last - architecture.first + 1 - len(table.numbers())
+    return Surface(asker, table, filter_regions, rows, foreign, Unnamed(count, unnamed))
 
 
 def surface_of_filters(filters: Sequence[bytes], table: Table, architecture: Architecture = JUDGED[NATIVE],

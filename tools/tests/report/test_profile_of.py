@@ -3,6 +3,7 @@ import json
 import operator
 import os
 import random
+import re
 from unittest import mock
 
 from support import several
@@ -32,9 +33,7 @@ def of_numbers(codes, default):
 
 
 def has_trap_data(profile):
-    holders = [(profile["defaultAction"], profile.get("defaultErrnoRet")),
-               *((entry["action"], entry.get("errnoRet")) for entry in profile["syscalls"])]
-    return any(action == "SCMP_ACT_TRAP" and errno is not None for action, errno in holders)
+    return re.search('SCMP_ACT_TRAP", "(errnoRet|defaultErrnoRet)', json.dumps(profile)) is not None
 
 
 def corners(filters):
@@ -49,13 +48,7 @@ def corners(filters):
 
 def profiles_in(text):
     """The profiles in a tool's output, among lines that it adds."""
-    lines = [line for line in text.splitlines(keepends=True) if not line.startswith("#")]
-    profiles, pending = [], "".join(lines)
-    while pending.strip():
-        value, end = json.JSONDecoder().raw_decode(pending.lstrip())
-        profiles.append(value)
-        pending = pending.lstrip()[end:]
-    return profiles
+    return [json.loads(printed) for printed in re.findall(r"(?ms)^\{$.*?^\}$", text)]
 
 
 def remarks_in(out, err):
