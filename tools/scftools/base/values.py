@@ -1,5 +1,5 @@
 """What takes Python's own modules long at a tool's start: value classes, patterns, and the types `Any` and `NoReturn`;
-and a value for what the system refuses.
+a value for what the system refuses; and values by their keys.
 
 `dataclass`, `field` and `replace` are those of the module `dataclasses`, as far as the tools need them. That imports
 `inspect` and compiles methods for each class; here the methods of all classes are the same few functions. The types are
@@ -11,7 +11,7 @@ import re
 
 TYPE_CHECKING = False
 if TYPE_CHECKING:
-    from collections.abc import Callable
+    from collections.abc import Callable, Iterable
     from dataclasses import dataclass, field, replace
     from typing import Any, NoReturn
 else:
@@ -37,6 +37,14 @@ def unless_refused(default: Any, call: Callable[..., Any], *words: Any, **settin
         return call(*words, **settings)
     except OSError:
         return default
+
+
+def by_key(pairs: Iterable[tuple[Any, Any]]) -> dict[Any, list[Any]]:
+    """The values of each key, in order."""
+    lists: dict[Any, list[Any]] = {}
+    for key, value in pairs:
+        lists.setdefault(key, []).append(value)
+    return lists
 
 
 class Default:

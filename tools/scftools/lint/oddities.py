@@ -11,9 +11,9 @@ from __future__ import annotations
 from collections.abc import Iterable, Iterator, Mapping, Sequence
 
 from ..base import output
-from ..base.values import Any
+from ..base.values import Any, by_key
 from ..model import constants, profiles, tables
-from ..model.answers import ERRNOS, MAX_ERRNO, Answer
+from ..model.answers import ERRNOS, MAX_ERRNO
 from ..model.architectures import JUDGED, NATIVE, NUMBERS, PREFIX, X32
 from ..model.argument_sets import Sets, Steps
 from ..model.entries import EQUAL, HOLDS, LOW_HALF, MASKED, Condition, Entry, Object
@@ -268,10 +268,7 @@ def of_conditions(entries: Sequence[Entry], judged: Tables) -> Iterator[Finding]
 def of_unions(judged: Tables, entries: Sequence[Entry]) -> Iterator[Finding]:
     """Entries with conditions and one answer that together cover every call of a syscall: they were meant to hold all
     at once, and one of them is enough. Raises TooMany."""
-    having: dict[tuple[str, Answer], list[Entry]] = {}
-    for entry in entries:
-        for name in entry.names:
-            having.setdefault((name, entry.answer), []).append(entry)
+    having = by_key(((name, entry.answer), entry) for entry in entries for name in entry.names)
     met = Met()
     for (name, _), its in having.items():
         if len(its) > 1 and all(entry.conditions for entry in its) and \

@@ -9,7 +9,7 @@ from __future__ import annotations
 import functools
 from collections.abc import Iterator, Mapping, Sequence
 
-from ..base.values import Any, dataclass
+from ..base.values import Any, by_key, dataclass
 from ..model.answers import ENOSYS, Answer
 from ..model.architectures import NATIVE, Architecture, machine_architecture
 from ..model.argument_sets import Sets, Steps
@@ -73,11 +73,8 @@ ALWAYS, SOMETIMES = "always", "sometimes"
 @functools.lru_cache(None)
 def meant() -> dict[str, list[tuple[Condition, ...]]]:
     """The syscalls that are looked for, each with the conditions of which its arguments are to meet some."""
-    conditions_of: dict[str, list[tuple[Condition, ...]]] = {}
-    for name, conditions in (*((name, danger.conditions) for name, danger in dangerous().items()),
-                             *(user for needed in NEEDED for user in (*needed.users, (needed.name, ())))):
-        conditions_of.setdefault(name, []).append(conditions)
-    return conditions_of
+    return by_key((*((name, danger.conditions) for name, danger in dangerous().items()),
+                   *(user for needed in NEEDED for user in (*needed.users, (needed.name, ())))))
 
 
 class Watch:

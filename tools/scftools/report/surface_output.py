@@ -8,7 +8,7 @@ import textwrap
 from collections.abc import Callable, Iterable, Iterator, Sequence
 
 from ..base import output, program
-from ..base.values import Any, dataclass
+from ..base.values import Any, by_key, dataclass
 from ..model import constants, tables
 from ..model.answers import ALLOW, ALLOWED, DENIED, DEPENDS
 from ..model.architectures import NATIVE, Architecture
@@ -126,10 +126,8 @@ def details(row: Row, is_in_table: bool = False) -> list[str]:
 
 def grouped(rows: Iterable[Any]) -> dict[str, list[Any]]:
     """The rows of each group, in the order of the groups; empty groups are left out."""
-    rows_of_groups: dict[str, list[Any]] = {group: [] for group in (*groups().values(), OTHER_GROUP)}
-    for row in rows:
-        rows_of_groups[group_of(row)].append(row)
-    return {group: members for group, members in rows_of_groups.items() if members}
+    of_groups = by_key((group_of(row), row) for row in rows)
+    return {group: of_groups[group] for group in (*groups().values(), OTHER_GROUP) if group in of_groups}
 
 
 def _cell(rows: Sequence[Row], width: int) -> list[str]:
