@@ -261,14 +261,12 @@ def dangerous(stacks: Sequence[Named], table_of: Table) -> Iterator[Markup]:
     denied: list[str] = []
     for name, danger in tables.dangerous().items():
         shown = [rows[name].by_conditions or rows[name].said if name in rows else "not known" for rows in rows_of]
-        if table_of.number_of(name) is None:
-            continue
-        if {*shown} == {DENIED}:
+        if table_of.number_of(name) is not None and {*shown} == {DENIED}:
             denied.append(name)
-            continue
-        are_denied = [text.startswith(DENIED) and ", else " not in text for text in shown]
-        lines.append([tag("code", name), *(tag("span", text, class_="good" if is_denied else "warn")
-                                           for text, is_denied in zip(shown, are_denied)), danger.reason])
+        elif table_of.number_of(name) is not None:
+            classes = ["good" if text.startswith(DENIED) and ", else " not in text else "warn" for text in shown]
+            lines.append([tag("code", name), *(tag("span", text, class_=word) for text, word in zip(shown, classes)),
+                          danger.reason])
     if lines:
         head = ["syscall", *(named.name for named in stacks), "why it is dangerous"]
         yield table(head, lines, "rows" if len(stacks) <= 2 else "scroll")

@@ -88,8 +88,7 @@ def fitted(lines: Iterable[str], width: int | None) -> Iterator[str]:
 
 
 def _summary(surface: Surface) -> str:
-    counts = surface.counts
-    architecture = surface.asker.architecture
+    counts, architecture = surface.counts, surface.asker.architecture
     text = ", ".join(f"{word} {counts[word]}" for word in ROW_WORDS if counts[word] or word in ALWAYS_COUNTED)
     return text if architecture.oci == NATIVE else f"{architecture.name}: {text}"
 
@@ -188,8 +187,8 @@ def row_json(row: Row) -> dict[str, object]:
 
 
 def _counts_json(surface: Surface) -> dict[str, object]:
-    counts = surface.counts
-    return {"architecture": surface.asker.architecture.name, "counts": {word: counts[word] for word in ROW_WORDS}}
+    return {"architecture": surface.asker.architecture.name,
+            "counts": {word: surface.counts[word] for word in ROW_WORDS}}
 
 
 def surface_json(surface: Surface) -> dict[str, object]:
