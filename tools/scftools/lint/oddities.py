@@ -126,9 +126,7 @@ def of_members(top: Object) -> Iterator[Finding]:
     for place, value, known in parts_of(top):
         read_members = [member for member in known if member not in ENGINE_MEMBERS]
         folded = set(map(profiles.folded, known))
-        for name in value:
-            if name in read_members or name == "comment":
-                continue
+        for name in (name for name in value if name not in read_members and name != "comment"):
             if name in known:
                 text = f"{ENGINE_MEMBERS[name]}: resolve-profile does so"
                 yield Finding.at(place, "engine-member", text, member=name)

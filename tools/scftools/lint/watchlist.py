@@ -1,9 +1,6 @@
 """Syscalls that `lint` looks for in what a profile allows: those that make a sandbox useless (tables/dangerous.calls),
 those that need another one, as sleeps need restart_syscall, those that libc replaces only if they are ENOSYS, and those
-that do what a denied one does, whose denial is void.
-
-What is allowed, with which arguments and by which entry, is what the profile's regions say.
-"""
+that do what a denied one does, whose denial is void."""
 from __future__ import annotations
 
 import functools

@@ -112,12 +112,10 @@ def table(head: Iterable[object], rows: Iterable[Iterable[object]], kind: str) -
 
 
 def preformatted(lines: Iterable[object]) -> Markup:
-    """Lines as they are."""
     return tag("pre", joined(lines, "\n"))
 
 
 def document(title: str, *pieces: object) -> str:
-    """The whole page."""
     digest = base64.b64encode(hashlib.sha256(STYLE.encode()).digest()).decode()
     policy = f"default-src 'none'; style-src 'sha256-{digest}'; base-uri 'none'; form-action 'none'"
     return ("<!DOCTYPE html>\n<html lang=\"en\">\n<head>\n<meta charset=\"utf-8\">\n"

@@ -48,7 +48,6 @@ def nearest(word: int | None, is_permissive: bool, has_trap_data: bool) -> Answe
 
 
 def entry_of(names: Sequence[str], answer: Answer, alternative: Alternative) -> dict[str, object]:
-    """An entry of a profile."""
     args = [{name: value for name, value in condition.as_json().items()
              if name != "valueTwo" or condition.op == "SCMP_CMP_MASKED_EQ"} for condition in alternative]
     return {"names": list(names), **answer.members(), **({"args": args} if args else {})}

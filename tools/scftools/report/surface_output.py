@@ -242,42 +242,33 @@ class Pair:
         return members
 
 
-@dataclass(frozen=True)
-class Beside:
-    """Two surfaces over one table, and whether numbers without a name, or syscalls of other ABIs, differ in answers."""
-
-    sides: tuple[Surface, Surface]
-    pairs: tuple[Pair, ...] = ()
-    # 1 if they differ, 4 if something is undecided, else 0
-    status: int = program.SUCCESS
-    unnamed_differ: bool = False
-    foreign_differ: bool = False
-
-
 def _comparison(sides: Iterable[Sequence[bytes]], table: Table) -> StackComparison:
-    """The comparison of two stacks."""
     return StackComparison(*([Filter("", data) for data in side] for side in sides), table)
 
 
-def compared_surfaces(*sides: Surface) -> Beside:
-    """Compares two surfaces."""
-    comparison = _comparison([side.asker.filters for side in sides], sides[0].table)
-    lines = {line.number: line for line in comparison.of_calls()}
-    pairs = tuple(Pair(rows, lines[rows[0].number]) for rows in zip(*(side.rows for side in sides))
-                  if rows[0].number in lines)
-    of_unnamed = [comparison.of_numbers(NATIVE, first, end - 1) for first, end in questions.gaps(comparison.table)]
-    of_foreign = []
-    for abi in questions.ABIS:
-        verdict = comparison.differences.verdict(SAME, [span_of(abi.oci, last=NO_CALL - 1)])
-        if verdict is None:
-            # behind a filter that allows these alone, since no scope of scf has them
-            alone = client.compile_profile(ALLOW.as_profile(abi.oci), Tables({abi.oci: Table(b"")}))
-            verdict = _comparison([[alone, *side] for side in comparison.stacks], comparison.table).run()[1].verdict
-        of_foreign.append(verdict or Verdict(UNFINISHED))
-    worst = min([*(pair.line.verdict for pair in pairs), *of_unnamed, *of_foreign], key=lambda verdict: verdict.order,
-                default=Verdict(SAME))
-    return Beside(sides, pairs, worst.status, *(any(verdict.fails for verdict in verdicts)
-                                                for verdicts in (of_unnamed, of_foreign)))
+class Beside:
+    """Two surfaces over one table: the syscalls that differ, or are undecided, and whether numbers without a name, or
+    syscalls of other ABIs, get different answers."""
+
+    def __init__(self, *sides: Surface):
+        comparison = _comparison([side.asker.filters for side in sides], sides[0].table)
+        lines = {line.number: line for line in comparison.of_calls()}
+        self.sides, both_rows = sides, zip(*(side.rows for side in sides))
+        self.pairs = [Pair(rows, lines[rows[0].number]) for rows in both_rows if rows[0].number in lines]
+        of_unnamed = [comparison.of_numbers(NATIVE, first, end - 1) for first, end in questions.gaps(comparison.table)]
+        of_foreign = []
+        for abi in questions.ABIS:
+            verdict = comparison.differences.verdict(SAME, [span_of(abi.oci, last=NO_CALL - 1)])
+            if verdict is None:
+                # behind a filter that allows these alone, since no scope of scf has them
+                alone = client.compile_profile(ALLOW.as_profile(abi.oci), Tables({abi.oci: Table(b"")}))
+                verdict = _comparison([[alone, *side] for side in comparison.stacks], comparison.table).run()[1].verdict
+            of_foreign.append(verdict or Verdict(UNFINISHED))
+        verdicts = [*(pair.line.verdict for pair in self.pairs), *of_unnamed, *of_foreign]
+        # 1 if they differ, 4 if something is undecided, else 0
+        self.status = min(verdicts, key=lambda verdict: verdict.order).status
+        self.unnamed_differ, self.foreign_differ = (any(verdict.fails for verdict in its)
+                                                    for its in (of_unnamed, of_foreign))
 
 
 def _pair_cell(pairs: Sequence[Pair], width: int) -> list[str]:
@@ -292,7 +283,6 @@ def _pair_cell(pairs: Sequence[Pair], width: int) -> list[str]:
 
 
 def lines_beside(beside: Beside, width: int | None) -> Iterator[str]:
-    """The text output for two surfaces."""
     undecided = sum(not pair.is_decided for pair in beside.pairs)
     count = f"syscalls that differ: {len(beside.pairs) - undecided}" + f", undecided: {undecided}" * (undecided > 0)
     # those about the whole of the first side, and those of the second that differ
@@ -324,7 +314,6 @@ class StackSurface:
     fault: client.Fault | None = None
 
     def block(self, width: int | None) -> Block:
-        """What is printed."""
         return Block(self.status, lambda: self._lines(width), self._members,
                      self.fault is not None and self.fault.source in OF_ALL)
 
@@ -361,7 +350,7 @@ def surface_of_stack(filters: Sequence[Filter], beside: Sequence[Filter], table:
         for abi in (access.abi for access in surface.foreign if not access.are_denied and not beside):
             own_table = tables.architecture_table(abi.oci)
             if own_table is not None:
-                surface.others.append(surfaces.of_regions(data, surface.regions, own_table, abi))
+                surface.others.append(Surface(data, surface.regions, own_table, abi))
         for row in surface.rows:
             row.has_examples = has_examples
         if has_conditions:
@@ -378,8 +367,7 @@ def surface_of_stack(filters: Sequence[Filter], beside: Sequence[Filter], table:
             return StackSurface(program.SUCCESS if surface.is_decided else program.UNKNOWN, filters, surface)
         refused = beside
         verdict = StackComparison([Filter("", data) for data in surface.asker.filters], beside, table).run()[1].verdict
-        both = Beside((surface, surface)) if verdict is not None and verdict.holds else \
-            compared_surfaces(surface, surface_of(beside))
+        both = Beside(surface, surface if verdict is not None and verdict.holds else surface_of(beside))
     except client.Refusal as why:
         return StackSurface(why.status, refused, fault=why.fault)
     return StackSurface(both.status, filters, surface, both)

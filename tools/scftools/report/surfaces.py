@@ -6,7 +6,7 @@ import functools
 from collections import Counter
 from collections.abc import Iterable, Iterator, Sequence
 
-from ..base.values import dataclass, field
+from ..base.values import Any, dataclass
 from ..model import constants
 from ..model.answers import ALLOWED, DELEGATED, DENIED, DEPENDS, Answer
 from ..model.architectures import JUDGED, NATIVE, Architecture
@@ -16,10 +16,6 @@ from ..ask import questions, regions
 from ..ask.questions import IS_ALLOWED, IS_DENIED, IS_NEVER_ALLOWED, IS_NEVER_DENIED, Asker
 from ..ask.regions import Numbers, Region
 from ..ask.verdicts import UNDECIDED, UNFINISHED
-
-TYPE_CHECKING = False
-if TYPE_CHECKING:
-    from .row_conditions import Conditions
 
 MOST_PERMISSIVE_FIRST = (ALLOWED, DELEGATED, DENIED)
 # What may hold for all syscalls of a number, in the order in which it is printed; the last two if scf can't decide.
@@ -59,7 +55,7 @@ class Row:
         if not self.possible or UNDECIDED in self.possible:
             self.possible = set(MOST_PERMISSIVE_FIRST)
         # which arguments get which answer, and whether to show a syscall of each region, on request
-        self.conditions: Conditions | None = None
+        self.conditions: Any = None
         self.has_examples = False
 
     def _shown(self, region: Region) -> Shown:
@@ -134,21 +130,28 @@ class Unnamed:
                 "are_allowed": self.are_allowed, **({"example": shown} if shown else {})}
 
 
-@dataclass
 class Surface:
-    """The syscalls that filters allow, and the regions that say so; None if they are unfinished."""
+    """The syscalls that filters allow to an architecture, or a whole machine, by their regions, None if unfinished."""
 
-    asker: Asker
-    table: Table
-    regions: Sequence[Region] | None
-    rows: list[Row]
-    # the access of the machine's other ABIs, none if one ABI alone is looked at
-    foreign: list[questions.AbiAccess]
-    unnamed: Unnamed
-    # those of other ABIs of which some syscall may be allowed, on request
-    others: list[Surface] = field(default_factory=list)
-    # a line if the conditions that are asked for weren't looked for to the end
-    unfinished: Sequence[str] = ()
+    def __init__(self, filters: Sequence[bytes], filter_regions: Sequence[Region] | None, table: Table,
+                 architecture: Architecture, is_machine: bool = False):
+        self.asker, self.table, self.regions = Asker(filters, architecture), table, filter_regions
+        numbers = Numbers(filter_regions, architecture)
+        self.rows = [Row(number, table.names_of(number), architecture, numbers.of(architecture.first + number))
+                     for number in sorted(table.numbers())]
+        if filter_regions is not None:
+            self.asker.check(table)
+            _ask(self.asker, self.rows)
+        # the access of the machine's other ABIs, none if one ABI alone is looked at
+        self.foreign = [questions.abi_access(filters, filter_regions, abi)
+                        for abi in (questions.OF_MACHINES[architecture.oci] if is_machine else ())]
+        count = architecture.last - architecture.first + 1 - len(table.numbers())
+        self.unnamed = Unnamed(count, ((Row(number, [], architecture, here), its_count)
+                                       for number, its_count, here in numbers.unnamed(table)))
+        # those of other ABIs of which some syscall may be allowed, on request
+        self.others: list[Surface] = []
+        # a line if the conditions that are asked for weren't looked for to the end
+        self.unfinished: Sequence[str] = ()
 
     @functools.cached_property
     def counts(self) -> Counter[str]:
@@ -156,7 +159,6 @@ class Surface:
 
     @property
     def is_decided(self) -> bool:
-        """Whether scf decided everything."""
         return (all(row.is_decided for row in self.rows) and not self.unnamed.undecided and not self.unfinished
                 and all(each.is_decided for each in (*self.foreign, *self.others)))
 
@@ -190,23 +192,7 @@ def _ask(asker: Asker, rows: Iterable[Row]) -> None:
                 row.examples.setdefault(verdict.filters.disposition, Shown(verdict.call, verdict.filters))
 
 
-def of_regions(filters: Sequence[bytes], filter_regions: Sequence[Region] | None, table: Table,
-               architecture: Architecture, is_machine: bool = False) -> Surface:
-    """The surface of filters with these regions, None if unfinished, to an architecture, or a whole machine."""
-    asker, numbers = Asker(filters, architecture), Numbers(filter_regions, architecture)
-    rows = [Row(number, table.names_of(number), architecture, numbers.of(architecture.first + number))
-            for number in sorted(table.numbers())]
-    if filter_regions is not None:
-        asker.check(table)
-        _ask(asker, rows)
-    foreign = [questions.abi_access(filters, filter_regions, abi)
-               for abi in (questions.OF_MACHINES[architecture.oci] if is_machine else ())]
-    unnamed = ((Row(number, [], architecture, here), count) for number, count, here in numbers.unnamed(table))
-    count = architecture.last - architecture.first + 1 - len(table.numbers())
-    return Surface(asker, table, filter_regions, rows, foreign, Unnamed(count, unnamed))
-
-
 def surface_of_filters(filters: Sequence[bytes], table: Table, architecture: Architecture = JUDGED[NATIVE],
                is_machine: bool = True) -> Surface:
     """The surface of filters, oldest first, to an architecture with this table, or to a machine whose own it is."""
-    return of_regions(filters, regions.regions_of_filters(filters), table, architecture, is_machine)
+    return Surface(filters, regions.regions_of_filters(filters), table, architecture, is_machine)

@@ -559,7 +559,7 @@ class Beside(Case):
     @staticmethod
     def compared(*sides):
         """The status, and the numbers of the syscalls that differ with what is said of each side."""
-        beside = surface_output.compared_surfaces(*sides)
+        beside = surface_output.Beside(*sides)
         return beside.status, [(pair.number, *(row.said for row in pair.rows)) for pair in beside.pairs], beside
 
     def test_each_two(self):
@@ -581,7 +581,7 @@ class Beside(Case):
                 ("a condition", by_argument(41, EPERM, ALLOW), ("ERRNO 1", "ALLOW")),
                 ("an errno", by_argument(40, 0x50026, ALLOW), ("ERRNO 1", "ERRNO 38")),
                 ("a logged syscall", by_argument(40, EPERM, LOG), ("ALLOW", "LOG"))):
-            beside = surface_output.compared_surfaces(of(plain), of([of_number(SOCKET, default, ALLOW)]))
+            beside = surface_output.Beside(of(plain), of([of_number(SOCKET, default, ALLOW)]))
             (pair,) = beside.pairs
             self.assertEqual((beside.status, pair.number, *(row.said for row in pair.rows)), (1, SOCKET, D, D), name)
             verdict = pair.line.verdict
