@@ -131,7 +131,7 @@ def main():
     width = size and (size.columns or 80)
 
     def judge(stack):
-        made.append(surface_output.surface_of_stack(
+        made.append(surface_output.StackSurface(
             stack, beside, table, architecture, architecture.oci == machine and machine in questions.OF_MACHINES,
             options.conditions, options.examples))
         return made[-1].block(width)

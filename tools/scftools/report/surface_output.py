@@ -303,15 +303,44 @@ def lines_beside(beside: Beside, width: int | None) -> Iterator[str]:
             yield from fitted([f"{subject}: some get different answers"], width)
 
 
-@dataclass(frozen=True)
 class StackSurface:
-    """A stack with its surface, or the fault if scf refuses the stack."""
+    """The surface of filters, oldest first, to an architecture, or to a machine whose own it is, and its comparison
+    with others, if there are any; on request with which arguments get which answer, or with a call of each region.
+    If scf refuses a stack it has that one's filters, and the fault."""
 
-    status: int
-    filters: Sequence[Filter]
-    surface: Surface | None = None
-    beside: Beside | None = None
-    fault: client.Fault | None = None
+    def __init__(self, filters: Sequence[Filter], beside: Sequence[Filter], table: Table, architecture: Architecture,
+                 is_machine: bool, has_conditions: bool, has_examples: bool):
+        def surface_of(stack: Sequence[Filter]) -> Surface:
+            data = [bpf_filter.data for bpf_filter in stack]
+            surface = surfaces.surface_of_filters(data, table, architecture, is_machine)
+            for abi in (access.abi for access in surface.foreign if not access.are_denied and not beside):
+                own_table = tables.architecture_table(abi.oci)
+                if own_table is not None:
+                    surface.others.append(Surface(data, surface.regions, own_table, abi))
+            for row in surface.rows:
+                row.has_examples = has_examples
+            if has_conditions:
+                from . import row_conditions  # pylint: disable=import-outside-toplevel
+
+                surface.unfinished = row_conditions.add(surface)
+                program.say(*surface.unfinished)
+            return surface
+
+        self.filters = filters
+        self.surface: Surface | None = None
+        self.beside: Beside | None = None
+        self.fault: client.Fault | None = None
+        try:
+            surface = surface_of(filters)
+            self.status = program.SUCCESS if surface.is_decided else program.UNKNOWN
+            if beside:
+                self.filters = beside
+                verdict = StackComparison(filters, beside, table).run()[1].verdict
+                self.beside = Beside(surface, surface if verdict is not None and verdict.holds else surface_of(beside))
+                self.filters, self.status = filters, self.beside.status
+            self.surface = surface
+        except client.Refusal as why:
+            self.status, self.fault = why.status, why.fault
 
     def block(self, width: int | None) -> Block:
         return Block(self.status, lambda: self._lines(width), self._members,
@@ -338,36 +367,3 @@ class StackSurface:
         return {**surface_json(self.surface), **({} if beside is None else {"beside": {
             **surface_json(beside.sides[1]), "differs": [pair.as_json() for pair in beside.pairs],
             "foreign_differ": beside.foreign_differ, "unnamed_differ": beside.unnamed_differ}})}
-
-
-def surface_of_stack(filters: Sequence[Filter], beside: Sequence[Filter], table: Table, architecture: Architecture,
-                     is_machine: bool, has_conditions: bool, has_examples: bool) -> StackSurface:
-    """The surface of filters, oldest first, to an architecture, or to a machine whose own it is, and its comparison
-    with others, if there are any; on request with which arguments get which answer, or with a call of each region."""
-    def surface_of(stack: Sequence[Filter]) -> Surface:
-        data = [bpf_filter.data for bpf_filter in stack]
-        surface = surfaces.surface_of_filters(data, table, architecture, is_machine)
-        for abi in (access.abi for access in surface.foreign if not access.are_denied and not beside):
-            own_table = tables.architecture_table(abi.oci)
-            if own_table is not None:
-                surface.others.append(Surface(data, surface.regions, own_table, abi))
-        for row in surface.rows:
-            row.has_examples = has_examples
-        if has_conditions:
-            from . import row_conditions  # pylint: disable=import-outside-toplevel
-
-            surface.unfinished = row_conditions.add(surface)
-            program.say(*surface.unfinished)
-        return surface
-
-    refused = filters
-    try:
-        surface = surface_of(filters)
-        if not beside:
-            return StackSurface(program.SUCCESS if surface.is_decided else program.UNKNOWN, filters, surface)
-        refused = beside
-        verdict = StackComparison([Filter("", data) for data in surface.asker.filters], beside, table).run()[1].verdict
-        both = Beside(surface, surface if verdict is not None and verdict.holds else surface_of(beside))
-    except client.Refusal as why:
-        return StackSurface(why.status, refused, fault=why.fault)
-    return StackSurface(both.status, filters, surface, both)
