@@ -328,12 +328,10 @@ def _evasions(watch: Watch, entries: Sequence[Entry]) -> Iterator[tuple[str, str
 
 def of_denials(judged: Tables, watches: Mapping[str, Watch], entries: Sequence[Entry]) -> Iterator[Finding]:
     """The evaded denials on architectures whose arguments have an upper half."""
-    evaded: dict[tuple[str, str], tuple[dict[str, object], list[str]]] = {}
     whole = [architecture for architecture in judged.of if JUDGED[architecture].greatest > LOW_HALF]
-    for oci in whole:
-        for name, said, more in _evasions(watches[oci], entries):
-            evaded.setdefault((name, said), (more, []))[1].append(oci)
-    for (name, said), (more, on) in evaded.items():
-        numbers = judged.numbers_of(name)
+    evaded = by_key(((name, said), (oci, more)) for oci in whole
+                    for name, said, more in _evasions(watches[oci], entries))
+    for (name, said), found in evaded.items():
+        numbers, (on, (more, *_)) = judged.numbers_of(name), zip(*found)
         owners = Owners.of(on, [architecture for architecture in whole if architecture in numbers], judged)
         yield owners.finding("high-half", f"{owners.named(name, numbers[owners.first])} {said}", **more)

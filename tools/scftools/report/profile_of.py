@@ -11,7 +11,7 @@ from collections import Counter
 from collections.abc import Iterable, Iterator, Sequence
 
 from ..base import output, program
-from ..base.values import Any, dataclass, replace
+from ..base.values import Any, by_key, dataclass, replace
 from ..model import architectures, constants, profiles, tables
 from ..model.answers import ACTIONS_WITH_DATA, DISPOSITIONS, ENOSYS, FIRST_X32, Answer
 from ..model.architectures import JUDGED, Architecture
@@ -329,12 +329,9 @@ def _differences(answers: FilterAnswers, proved: ProvedProfile) -> Iterator[str]
         yield call.line
         yield f"{call.names[0]}: {whys[call.number]}"
     numbers = {call.number for call in farther}
-    alike: dict[str, list[str]] = {}
-    for call in proved.calls:
-        if call.number not in numbers:
-            how = f"only other answers, since {whys[call.number]}" if call.verdict.fails else \
-                f"as permissive, but not proved to get the same answers ({call.verdict.word})"
-            alike.setdefault(how, []).append(call.names[0])
+    alike = by_key((f"only other answers, since {whys[call.number]}" if call.verdict.fails else
+                    f"as permissive, but not proved to get the same answers ({call.verdict.word})", call.names[0])
+                   for call in proved.calls if call.number not in numbers)
     yield from (f"{how}: {', '.join(names)}" for how, names in alike.items())
     for number, word, arguments in ((number, *part) for number, parts in answers.numbered(False) for part in parts):
         is_known = word is not None and all(variable < FIRST_OPEN for variable in answers.sets.variables(arguments))
