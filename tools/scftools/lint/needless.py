@@ -95,8 +95,7 @@ class Search:
                     self._having.setdefault(call, {})[entry.place, name] = entry
 
     def _beside(self, entry: Entry, call: ArchitectureNumber) -> list[Entry]:
-        """The other entries that have a syscall, without what is removed. Only as a runtime reads them one may answer
-        otherwise, and has all calls."""
+        """Other entries of a syscall, without what is gone; one that answers otherwise, to a runtime, has all calls."""
         others = (other for named, other in self._having[call].items()
                   if named not in self.gone and other.place != entry.place)
         return [other for other in others if other.answer == entry.answer

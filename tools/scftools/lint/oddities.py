@@ -227,8 +227,7 @@ ON_ARGUMENTS = {
 
 
 def _of_argument(kind: str, entry: Entry, place: int, judged: Tables) -> Iterator[Finding]:
-    """Findings of a kind about the argument that a condition tests, of those syscalls of which it is so; an upper half
-    have arguments of 64 bits alone."""
+    """Findings of a kind on the argument of a condition, by syscalls; only arguments of 64 bits have an upper half."""
     (letter, sentence), index, value = ON_ARGUMENTS[kind], entry.conditions[place].index, entry.conditions[place].value
     named: dict[Owners, list[str]] = {}
     for name in entry.names:

@@ -384,8 +384,7 @@ def _both_sides(answers: FilterAnswers, bounds: Sequence[ProvedProfile]) -> Iter
 
 def of_filters(filters: Sequence[Filter], relation: str, table: tables.Table, architecture: Architecture,
                runtime: str | None, others: Sequence[str], has_trap_data: bool) -> Result:
-    """The profile of filters; with a relation other than the same, the nearest one that has it. Raises Refusal if scf
-    refuses the filters or the table."""
+    """The profile of filters, or the nearest of another relation. Raises Refusal if scf refuses them or the table."""
     data = [bpf_filter.data for bpf_filter in filters]
     filter_regions = regions.regions_of_filters(data)
     Asker(data, architecture).check(table)

@@ -94,8 +94,7 @@ def _summary(surface: Surface) -> str:
 
 
 def whole_lines(surface: Surface) -> list[str]:
-    """Of which other machine's architectures a filter is; how many syscalls are allowed, denied and so on; those of the
-    machine's other ABIs; numbers without a name."""
+    """Other machines that filters are for; how many syscalls are allowed; other ABIs; numbers without a name."""
     names = [architecture.name for architecture in surface.other_machines]
     denied = [surface.asker.architecture.name, *(access.abi.name for access in surface.foreign)]
     of_others = [f"it is for {join_names(names)}, which --arch lists: every {join_names(denied)} syscall is denied"] \
@@ -247,8 +246,7 @@ def _comparison(sides: Iterable[Sequence[bytes]], table: Table) -> StackComparis
 
 
 class Beside:
-    """Two surfaces over one table: the syscalls that differ, or are undecided, and whether numbers without a name, or
-    syscalls of other ABIs, get different answers."""
+    """Two surfaces over one table: which syscalls differ, and whether numbers without a name or other ABIs do."""
 
     def __init__(self, *sides: Surface):
         comparison = _comparison([side.asker.filters for side in sides], sides[0].table)
