@@ -10,7 +10,7 @@ from __future__ import annotations
 
 from collections.abc import Iterator, Sequence
 
-from ..base.values import replace
+from ..base.values import by_key, replace
 from ..model.answers import Answer
 from ..model.architectures import JUDGED
 from ..model.argument_sets import FULL_SET, Sets, Steps, TooMany
@@ -88,15 +88,13 @@ class Search:
         self.judged, self.top, self.filter, self.default, self.met = judged, top, data, default, Met()
         self.entries = {entry.place: entry for entry in entries}
         self.gone: set[EntryName] = set()
-        self._having: dict[ArchitectureNumber, dict[EntryName, Entry]] = {}
-        for entry in entries:
-            for name in entry.names:
-                for call in judged.numbers_of(name).items():
-                    self._having.setdefault(call, {})[entry.place, name] = entry
+        self._having: dict[ArchitectureNumber, list[tuple[EntryName, Entry]]] = by_key(
+            (call, ((entry.place, name), entry)) for entry in entries for name in entry.names
+            for call in judged.numbers_of(name).items())
 
     def _beside(self, entry: Entry, call: ArchitectureNumber) -> list[Entry]:
         """Other entries of a syscall, without what is gone; one that answers otherwise, to a runtime, has all calls."""
-        others = (other for named, other in self._having[call].items()
+        others = (other for named, other in self._having[call]
                   if named not in self.gone and other.place != entry.place)
         return [other for other in others if other.answer == entry.answer
                 or other.answer != self.default and _takes_all(other)
@@ -107,7 +105,7 @@ class Search:
         alone names the greatest number of an architecture, behind which runc's stub begins."""
         calls = self.judged.numbers_of(name).items()
         if any(self.judged.stub.get(oci) == JUDGED[oci].first + number + 1
-               and all(at in self.gone or at[0] == entry.place for at in self._having[oci, number])
+               and all(at in self.gone or at[0] == entry.place for at, _ in self._having[oci, number])
                for oci, number in calls):
             return True
         besides = ((call[0], self._beside(entry, call)) for call in calls if entry.answer != self.default)

@@ -31,19 +31,17 @@ ALIASES = {"AMD64": "X86_64", "X86-64": "X86_64", "X64": "X86_64", "ARM64": "AAR
 
 def of_names(top: Object, judged: Tables) -> Iterator[Finding]:
     """Names that no syscall has, and a count of names that only other architectures have than those that are judged."""
-    places: dict[str, int] = {}
-    for place, entry in objects_in(top, "syscalls"):
-        places.update((name, place) for name in entry["names"] if name not in places)
+    places = by_key((name, place) for place, entry in objects_in(top, "syscalls") for name in entry["names"])
     skipped = tables.classify([name for name in places if not judged.numbers_of(name)], judged)
     slips = {name: tables.misspelt_as(name, *judged.of.values()) for name, _ in skipped.unknown}
     # (those come first, since of too many the last aren't listed)
     for name, near in sorted(skipped.unknown, key=lambda unknown: slips[unknown[0]] is None):
         near = slips[name] or near
         text = f"no known syscall is named {output.cut(name)}{_nearest(near, ' name in the table')}"
-        yield Finding.at([places[name]], "unknown-name", text, graver=slips[name] and ERROR, name=name, nearest=near)
+        yield Finding.at(places[name][:1], "unknown-name", text, graver=slips[name] and ERROR, name=name, nearest=near)
     for name in skipped.left_out:
         text = f"{name} is a syscall of x86-64 that this table leaves out"
-        yield Finding.at([places[name]], "left-out-name", text, name=name)
+        yield Finding.at(places[name][:1], "left-out-name", text, name=name)
     if skipped.elsewhere:
         count = len(skipped.elsewhere)
         yield Finding("other-architectures", f"names that only other architectures have: {count}", count=count,

@@ -251,8 +251,9 @@ class Beside:
     def __init__(self, *sides: Surface):
         comparison = _comparison([side.asker.filters for side in sides], sides[0].table)
         lines = {line.number: line for line in comparison.of_calls()}
-        self.sides, both_rows = sides, zip(*(side.rows for side in sides))
-        self.pairs = [Pair(rows, lines[rows[0].number]) for rows in both_rows if rows[0].number in lines]
+        self.sides = sides
+        self.pairs = [Pair(rows, lines[rows[0].number]) for rows in zip(*(side.rows for side in sides))
+                      if rows[0].number in lines]
         of_unnamed = [comparison.of_numbers(NATIVE, first, end - 1) for first, end in questions.gaps(comparison.table)]
         of_foreign = []
         for abi in questions.ABIS:
