@@ -215,13 +215,12 @@ class Named:
 
 
 def _cell(rows: Sequence[ShownRow]) -> str:
-    counts = Counter(row.said for row in rows)
+    words = ALLOWED, DEPENDS, DELEGATED, DENIED
+    counts = Counter(row.said if row.said in words else "not known" for row in rows)
     if len(counts) == 1 and rows[0].said in (ALLOWED, DENIED):
         return f"all {rows[0].said}"
-    shown = [f"{counts[disposition]} {disposition}" for disposition in (ALLOWED, DEPENDS, DELEGATED)
-             if counts[disposition]]
-    unknown = len(rows) - sum(counts[disposition] for disposition in (ALLOWED, DEPENDS, DELEGATED, DENIED))
-    return f"some: {', '.join(shown + [f'{unknown} not known'] * bool(unknown)) or 'denied'} of {len(rows)}"
+    shown = [f"{counts[word]} {word}" for word in (*words[:-1], "not known") if counts[word]]
+    return f"some: {', '.join(shown)} of {len(rows)}"
 
 
 def stack(named: Named) -> Iterator[Markup]:
