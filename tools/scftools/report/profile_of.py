@@ -178,10 +178,9 @@ class Draft:
         """The default: of the utmost answers to numbers without a name the one that most numbers get."""
         if self.levels.get(None):
             return self.utmost
-        firsts = [self._first(answers) for _, answers in self.filters.numbered(False)]
-        ranks = [DISPOSITIONS.index(answer.disposition) for answer in firsts]
-        utmost = (max if self.is_permissive else min)(ranks, default=0)
-        able = dict.fromkeys(answer for answer, rank in zip(firsts, ranks) if rank == utmost) or {self.utmost: None}
+        firsts = (self._first(answers) for _, answers in self.filters.numbered(False))
+        by_rank = by_key((DISPOSITIONS.index(first.disposition), first) for first in firsts)
+        able = by_rank[(max if self.is_permissive else min)(by_rank)] if by_rank else [self.utmost]
         counts = Counter(map(self._first, self.filters.answers))
         return max(able, key=lambda answer: counts[answer])
 
