@@ -105,7 +105,8 @@ class Unnamed:
     always allowed; and an example that isn't denied. Given rows, each with how many are answered as its syscalls."""
 
     def __init__(self, count: int, rows: Iterable[tuple[Row, int]]):
-        self.count, self.not_denied, self.undecided, self.are_allowed, self.shown = count, 0, 0, True, None
+        self.count, self.not_denied, self.undecided = count, 0, 0
+        self.are_allowed, self.shown = True, None
         for row, count in rows:
             self.are_allowed = self.are_allowed and row.possible == {ALLOWED}
             if row.examples.keys() - {DENIED} or DENIED not in row.possible:
