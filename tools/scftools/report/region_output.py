@@ -4,7 +4,7 @@ from __future__ import annotations
 from collections.abc import Iterator, Sequence
 
 from ..base import program
-from ..base.values import dataclass, field, replace
+from ..base.values import by_key, dataclass, field, replace
 from ..model.architectures import Architecture
 from ..model.calls import ARCHITECTURE, ARGUMENTS, Call
 from ..model.entries import AT_LEAST, AT_MOST, EQUAL, MASKED, NOT_EQUAL, Condition
@@ -84,14 +84,9 @@ def conditions(region: Region, syscall: str, architecture: Architecture) -> list
 def listed(regions: Sequence[Region], table: Table, architecture: Architecture) -> list[Listed]:
     """The regions of an architecture's syscalls, in the order of the walk."""
     numbers = Numbers(regions, architecture)
-    of_region: dict[int, list[int]] = {}
-    for number in sorted(table.numbers()):
-        for region in numbers.of(architecture.first + number):
-            of_region.setdefault(id(region), []).append(number)
-    unnamed: dict[int, list[tuple[int, int]]] = {}
-    for first, count, here in numbers.unnamed(table):
-        for region in here:
-            unnamed.setdefault(id(region), []).append((first, count))
+    of_region = by_key((id(region), number) for number in sorted(table.numbers())
+                       for region in numbers.of(architecture.first + number))
+    unnamed = by_key((id(region), (first, count)) for first, count, here in numbers.unnamed(table) for region in here)
     entries: dict[tuple[object, ...], Listed] = {}
     for region in regions:
         numbers_of_region, others = of_region.get(id(region), []), unnamed.get(id(region), [])
