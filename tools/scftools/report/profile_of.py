@@ -389,30 +389,26 @@ def of_filters(filters: Sequence[Filter], relation: str, table: tables.Table, ar
     Asker(data, architecture).check(table)
     answers = FilterAnswers(filters, filter_regions, table, architecture, runtime, others, has_trap_data)
     try:
-        return _of_answers(answers, relation)
-    except TooMany:
-        return Result(program.UNKNOWN, "", [UNFINISHED_TEXT.format(answers.steps.most)])
-
-
-def _of_answers(answers: FilterAnswers, relation: str) -> Result:
-    """The result for filters with these answers. Raises TooMany."""
-    same = _same(answers)
-    if same is not None:
-        stub = answers.comparison(same.profile).right.stub
-        remarks = [*same.reading_remarks, *_covered(answers, same), *([profile_inputs.stub_note(stub)] if stub else [])]
-        return Result(program.SUCCESS, engines.printed(same.profile), remarks, [same])
-    if relation == SAME:
+        same = _same(answers)
+        if same is not None:
+            stub = answers.comparison(same.profile).right.stub
+            notes = [profile_inputs.stub_note(stub)] if stub else []
+            return Result(program.SUCCESS, engines.printed(same.profile),
+                          [*same.reading_remarks, *_covered(answers, same), *notes], [same])
+        if relation != SAME:
+            bound = _bound(answers, relation)
+            if bound is None:
+                return Result(program.UNKNOWN, "", [
+                    f"no profile was found that scf proves to be {RELATION_TEXTS[relation]} than the filters"])
+            remarks = [*_differences(answers, bound), *bound.reading_remarks, *_covered(answers, bound)]
+            return Result(program.SUCCESS, engines.printed(bound.profile), remarks, [bound])
         bounds = [*filter(None, (_bound(answers, each) for each in (NO_LESS, NO_MORE)))]
         if len(bounds) == 2 and bounds[0].profile == bounds[1].profile:
             # one that is on both sides stands once
             bounds = [replace(bounds[0], relations=(NO_LESS, NO_MORE))]
         lines = list(_both_sides(answers, bounds))
-        remarks = [line[2:] for line in lines if line.startswith("# ")]
-        return Result(program.UNKNOWN, engines.printed(bounds[0].profile), remarks, bounds) if len(bounds) == 1 else \
-            Result(program.UNKNOWN, "".join(f"{line}\n" for line in lines), [], bounds)
-    bound = _bound(answers, relation)
-    if bound is None:
-        return Result(program.UNKNOWN, "", [
-            f"no profile was found that scf proves to be {RELATION_TEXTS[relation]} than the filters"])
-    remarks = [*_differences(answers, bound), *bound.reading_remarks, *_covered(answers, bound)]
-    return Result(program.SUCCESS, engines.printed(bound.profile), remarks, [bound])
+    except TooMany:
+        return Result(program.UNKNOWN, "", [UNFINISHED_TEXT.format(answers.steps.most)])
+    remarks = [line[2:] for line in lines if line.startswith("# ")]
+    return Result(program.UNKNOWN, engines.printed(bounds[0].profile), remarks, bounds) if len(bounds) == 1 else \
+        Result(program.UNKNOWN, "".join(f"{line}\n" for line in lines), [], bounds)
