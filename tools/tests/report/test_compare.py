@@ -4,7 +4,7 @@ import os
 import re
 
 from support.common import (ALLOW, CORE, EPERM, I386, KILL_PROCESS, KILL_THREAD, TABLE, TOP, UNKNOWN_ZERO, X86_64, Case,
-                            filter_of, gate, insn, jeq, jge, load, part, profile_of, ret, text_of)
+                            filter_of, gate, insn, jeq, jge, load, part, profile_of, ret, stub, text_of)
 from scftools.model import bundles, profiles, tables
 from scftools.ask import client
 from scftools.forms.profile_inputs import ProfileInput
@@ -55,24 +55,15 @@ class Compare(Case):
             "# 231 exit_group differs args 0x0 0x0 0x0 0x0 0x0 0x0 filter ALLOW 0 profile ERRNO 1\n"), ""))
 
     def test_a_table_of_ones_own(self):
-        table = self.file("own.table", b"# mine\nread 0\nwrite 1\nleave 231\nleave_too 231\n")
-        for name, given in ((table, b""), ("-", b"read 0\nwrite 1\nleave 231\nleave_too 231\n")):
-            out = self.output_of(1, "compare", "--table", name, self.wrong, self.profile, given=given)
-            self.assertIn("# the syscall is leave or leave_too (231)\n", out)
-        with open(table, "rb") as given:
-            out = self.run_tool("compare", "--table", "-", self.wrong, self.profile, given=given)[1]
-        self.assertIn("# the syscall is leave or leave_too (231)\n", out)
-        self.file("-t", b"read 0\nwrite 1\nleave 231\n")
-        self.assertIn("# the syscall is leave (231)\n",
-                      self.run_tool("compare", "--native", "--table=-t", self.wrong, self.profile)[1])
-        few = self.file("few.table", b"read 0\nwrite 1\n")
-        self.assertIn("# the syscall is number 231, which the table doesn't name\n",
-                      self.run_tool("compare", "--table", few, self.wrong, self.profile)[1])
+        few, both = self.file("few.table", b"read 0\nwrite 1\n"), "leave or leave_too (231)"
+        with open(self.file("-t", b"# mine\nread 0\nwrite 1\nleave 231\nleave_too 231\n"), "rb") as opened:
+            for name, given, shown in ((opened.name, b"", both), ("-t", b"", both), ("-", opened, both),
+                                       ("-", b"read 0\nleave 231\n", "leave (231)"),
+                                       (few, b"", "number 231, which the table doesn't name")):
+                out = self.output_of(1, "compare", f"--table={name}", self.wrong, self.profile, given=given)
+                self.assertIn(f"# the syscall is {shown}\n", out)
 
     def test_foreign_calls_are_said_to_be_left_out_by_native(self):
-        out = self.output_of(1, "compare", "--all", self.lax, self.profile)
-        self.assertIn("# --native leaves out ", out)
-
         def on_one_call(arch, number):
             """Allows one number of one architecture, and is the profile's filter elsewhere."""
             return (load(4) + jeq(arch, 0, 3) + load(0) + jeq(number, 0, 1) + ret(ALLOW) + filter_of([READ, WRITE]))
@@ -89,10 +80,6 @@ class Compare(Case):
             out = self.output_of(1, "compare", "--all", self.file("one.bpf", on_one_call(arch, number)), self.profile)
             self.assertIn(f"call nr {number} arch {arch:#x} ", out)
             self.assertIn(f"# the syscall is {says}", out)
-
-    def test_a_whole_config(self):
-        config = b'{"ociVersion":"1.0.2","linux":{"seccomp":' + profile_of("read", "write") + b"}}"
-        self.assertEqual(self.run_tool("compare", self.same, self.file("config.json", config)), (0, "same\n", ""))
 
     def test_a_call_of_a_line_has_its_instruction_pointer_where_it_does_not_matter(self):
         of_one = load(8) + jeq(0x1234, 0, 1) + ret(EPERM) + ret(ALLOW)
@@ -215,18 +202,11 @@ class Compare(Case):
         status, out, _ = self.run_tool("compare", "--calls", "--limit", "0", self.same, self.profile)
         self.assertEqual((status, out.split("\n")[:2]), (4, ["unfinished", "0 read unfinished"]))
 
-    def test_native_calls_that_differ_are_told_by_name(self):
-        line = "231 exit_group differs args 0x0 0x0 0x0 0x0 0x0 0x0 filter ALLOW 0 profile ERRNO 1"
-        heading = "syscalls in the table that differ"
-        out = self.run_tool("compare", "--native", self.wrong, self.profile)[1]
-        self.assertTrue(out.endswith(f"# {heading}: 1\n# {line}\n"), out)
-        self.assertNotIn("--native", out)
-        # as runc puts in front of a filter: numbers that it doesn't know fail with ENOSYS
-        stub = load(0) + jge(500, 0, 1) + ret(0x00050026)
-        out = self.output_of(1, "compare", "--native",
-                             self.file("stub.bpf", stub + filter_of([READ, WRITE])), self.profile)
-        self.assertTrue(out.endswith("# each syscall in the table gets the same answer from both sides\n"), out)
-        self.assertIn(f"# {heading}: 1\n# {line}\n", self.run_tool("compare", "--all", self.wrong, self.profile)[1])
+    def test_numbers_that_differ_and_have_no_name(self):
+        data = self.file("stub.bpf", stub(500) + filter_of([READ, WRITE]))
+        for words in ((), ("--native",)):
+            out = self.output_of(1, "compare", *words, data, self.profile)
+            self.assertTrue(out.endswith("# each syscall in the table gets the same answer from both sides\n"), out)
 
     def test_several_filters(self):
         stricter = self.file("stricter.bpf", load(0) + jeq(WRITE, 0, 1) + ret(0x00050002) + ret(ALLOW))
@@ -266,9 +246,10 @@ class OtherAbis(Case):
 
     def test_native_leaves_them_out(self):
         for filters in (self.lets_i386, self.lets_x32, self.lets_both):
-            for words in (("--native",), ("--native", "--no-more")):
-                status, lines = self.said(*words, filters, self.profile("X86", "X32"))
-                self.assertEqual((status, lines[0]), (0, "no more" if "--no-more" in words else "same"))
+            for words, verdict in ((("--native",), "same"), (("--native", "--no-more"), "no more")):
+                self.assertEqual(self.said(*words, filters, self.profile("X86", "X32")), (0, [
+                    verdict, "other SCMP_ARCH_X86", "other SCMP_ARCH_X32",
+                    "# --native leaves out SCMP_ARCH_X86 and SCMP_ARCH_X32, which the profile also names"]))
             self.assertEqual(self.said("--calls", filters, self.profile())[1][1].split(" args")[0],
                              "x32 0 read differs" if filters == self.lets_both else "x32 1073741824 differs")
         self.assertEqual(self.said("--native", self.wrong, self.profile("X86", "X32"))[0], 1)
@@ -347,11 +328,7 @@ class OtherAbis(Case):
         self.assertEqual(self.said(fits, self.profile("MIPS"))[1][:2], ["same", "other SCMP_ARCH_MIPS"])
 
     def test_what_a_profile_does_not_name_is_denied(self):
-        """Or differs, by a call; --native doesn't ask."""
-        status, lines = self.said("--native", self.lets_both, self.profile("X86", "X32"))
-        self.assertEqual((status, lines), (0, [
-            "same", "other SCMP_ARCH_X86", "other SCMP_ARCH_X32",
-            "# --native leaves out SCMP_ARCH_X86 and SCMP_ARCH_X32, which the profile also names"]))
+        """Or differs, by a call."""
         fits = self.file("f.bpf", of_abis(load(0) + jeq(READ, 1, 0) + ret(EPERM) + ret(ALLOW),
                                           load(0) + jeq(3, 1, 0) + ret(EPERM) + ret(ALLOW), ret(ALLOW)))
         shown = "call nr 1073741824 arch 0xc000003e ip 0x0 args 0x0 0x0 0x0 0x0 0x0 0x0"
@@ -476,10 +453,8 @@ class Decide(Case):
         self.assertEqual(self.run_tool("decide", "--nr=0", self.filter)[1],
                          "ALLOW 0\n# the syscall is read (0)\n# ALLOW: the syscall is executed\n# the path in the "
                          "filter: 0 1 3 4 6 8\n")
-        self.file("-t", b"own 1\n")
-        for words, given in (("--table=-t", b""), ("--table=-", b"own 1\n")):
-            out = self.run_tool("decide", words, "--nr", "own", self.filter, given=given)[1]
-            self.assertTrue(out.startswith("ERRNO 1\n# the syscall is own (1)\n"), out)
+        out = self.run_tool("decide", "--table=-", "--nr", "own", self.filter, given=b"own 1\n")[1]
+        self.assertTrue(out.startswith("ERRNO 1\n# the syscall is own (1)\n"), out)
         self.is_refused("the table has no syscall 'no_such_call'", "decide", "--nr", "no_such_call", self.filter)
 
     def test_each_option_is_handed_on(self):

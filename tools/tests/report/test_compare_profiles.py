@@ -34,11 +34,21 @@ def degree(answer):
     return ("denied", "delegated", "allowed").index(answer.disposition)
 
 
-class Program(Case):
-    def compared(self, old, new, *words, given=b""):
-        """The status and the lines, of two texts."""
+class Pair(Case):
+    """Two profiles beside each other."""
+
+    def lines(self, old, new, *words):
+        """The status and the lines, and what is said on standard error."""
         names = self.file("old.json", old), self.file("new.json", new)
-        return self.told("compare-profiles", *words, *names, given=given)
+        status, out, err = self.run_tool("compare-profiles", *words, *names)
+        return status, out.splitlines(), err.splitlines()
+
+
+class Program(Pair):
+    def compared(self, *words):
+        *done, err = self.lines(*words)
+        self.assertEqual(err, [])
+        return tuple(done)
 
     def test_the_same(self):
         """By other entries, and in another order."""
@@ -184,9 +194,8 @@ class Program(Case):
 
     def test_a_whole_config_and_standard_input(self):
         config = json.dumps({"ociVersion": "1.0.2", "linux": {"seccomp": json.loads(READ_WRITE)}})
-        self.assertEqual(self.compared(READ_WRITE, config)[0], 0)
-        status, out, _ = self.run_tool("compare-profiles", "-", self.file("p", READ_WRITE), given=config.encode())
-        self.assertEqual((status, out.split("\n")[0]), (0, "same"))
+        self.begins(0, "same", self.run_tool("compare-profiles", "-", self.file("p", READ_WRITE),
+                                             given=config.encode()))
 
     def test_refusals(self):
         """Whose fault it is; the kinds are those of docs/FAULTS.md."""
@@ -238,7 +247,7 @@ esac
         self.assertEqual((status, out.split("\n")[0]), (4, "undecided at 3".partition(" ")[0]))
 
 
-class Engines(Case):
+class Engines(Pair):
     """Profiles as engines ship them."""
 
     MAP = [{"architecture": "SCMP_ARCH_X86_64", "subArchitectures": []}]
@@ -250,47 +259,38 @@ class Engines(Case):
                                {"names": ["reboot"], "action": ALLOW, "includes": {"caps": ["CAP_SYS_BOOT"]}}]}
 
     def compared(self, *words, old=None, new=None):
-        names = [self.file(f"{name}.json", value) for name, value in (("old", old or self.OLD),
-                                                                            ("new", new or self.NEW))]
-        status, out, err = self.run_tool("compare-profiles", *words, *names)
-        return status, [line.split()[:3] for line in out.split("\n") if line[:1].isdigit()], err
+        """The names of the syscalls that differ."""
+        status, lines, err = self.lines(old or self.OLD, new or self.NEW, *words)
+        return status, [line.split()[1] for line in lines if line[:1].isdigit()], err
 
     def test_the_options_resolve_both(self):
         """The same profile by itself is the same, whatever it leaves out; what is left out of one alone is said."""
         for words, expected in ((["--caps", "none"], ["write"]), (["--caps", "SYS_BOOT"], ["write", "reboot"]),
                                 (["--kernel", "4.0"], ["write"]), (["--arch-map", "native"], ["write"]),
                                 (["--keep-first"], ["write"])):
-            status, exit_status, _ = self.compared(*words)
-            self.assertEqual((status, [line[1] for line in exit_status]), (1, expected), words)
+            self.assertEqual(self.compared(*words)[:2], (1, expected), words)
         for words in (["--caps", "none"], ["--caps", "docker,SYS_ADMIN", "--kernel", "6.1"]):
-            self.assertEqual(self.compared(*words, new=self.OLD), (0, [], ""))
+            self.assertEqual(self.compared(*words, new=self.OLD), (0, [], []))
         self.assertEqual(self.compared("--caps", "none")[2],
-                         "compare-profiles: new: entry 4 (reboot) left out: only with CAP_SYS_BOOT\n")
+                         ["compare-profiles: new: entry 4 (reboot) left out: only with CAP_SYS_BOOT"])
         twice = {"defaultAction": ERRNO, "syscalls": [{"names": ["read"], "action": ALLOW},
                                                       {"names": ["read"], "action": "SCMP_ACT_LOG"}]}
         self.assertEqual(self.compared("--keep-first", old=twice, new={**twice, "syscalls": twice["syscalls"][:1]})[:2],
                          (0, []))
 
     def test_without_an_option_scf_refuses_an_engines_form(self):
-        out = self.output_of(2, "compare-profiles", *[self.file("old.json", self.OLD)] * 2)
-        self.assertTrue(out.startswith("fault profile EngineForm\n"), out)
-        self.assertTrue(out.endswith("# it is the old profile\n# --caps and the like resolve both profiles as an "
-                                     "engine does\n"), out)
+        status, lines, err = self.lines(self.OLD, self.OLD)
+        self.assertEqual((status, lines[0], lines[-2:], err), (2, "fault profile EngineForm", [
+            "# it is the old profile", "# --caps and the like resolve both profiles as an engine does"], []))
 
     def test_what_the_engines_refuse(self):
-        status, exit_status, err = self.compared("--caps", "none", new={"defaultAction": ERRNO, "syscalls": 1})
-        self.assertEqual((status, exit_status), (2, []))
-        self.assertRegex(err, r"\Acompare-profiles: [^\n]*new\.json: [^\n]+\n\Z")
+        status, lines, (err,) = self.lines(self.OLD, {"defaultAction": ERRNO, "syscalls": 1}, "--caps", "none")
+        self.assertEqual((status, lines), (2, []))
+        self.assertRegex(err, r"\Acompare-profiles: .*new\.json: .+\Z")
 
 
-class Runtimes(Case):
+class Runtimes(Pair):
     """Profiles as a runtime applies them, and entries by their index in the user's files."""
-
-    def lines(self, old, new, *words):
-        names = [self.file(f"{name}.json", value) for name, value in (("old", old), ("new", new))]
-        status, out, err = self.run_tool("compare-profiles", *words, *names)
-        self.assertNotIn("Traceback", err)
-        return status, out.splitlines(), err.splitlines()
 
     def test_entries_are_called_as_in_the_file(self):
         old = {"defaultAction": ERRNO, "syscalls": [

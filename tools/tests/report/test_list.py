@@ -43,15 +43,6 @@ class List(Case):
             "8  ret #0x50026           // ERRNO 38 (ENOSYS)",
         ])
 
-    def test_it_is_the_listing_of_dis_with_more_around_it(self):
-        odd = b"".join(insn(code, k, jt, jf) for code in (*EVERY_CODE, 0x94, 0xFFFF) for k in (0, 4, 0xFFFFFFFF)
-                       for jt in (0, 3) for jf in (0, 255))
-        for data in (GATE, filter_of(range(200)), odd):
-            plain = self.run_words([*CORE, "dis"], data)[1].split("\n")[:-1]
-            listed = self.listed(data)
-            self.assertEqual([re.sub(r" *//.*", "", re.sub(r"^ *[0-9]+  ", "", line)) for line in listed], plain)
-            self.assertEqual([int(line.split()[0]) for line in listed], list(range(len(plain))))
-
     def test_targets_are_absolute(self):
         data = insn(0x05, 2) + insn(0x05, 0) + ret(0) + jeq(1, 0, 1) + ret(0) + insn(0x4D, 0, 200, 0) + ret(0)
         self.assertEqual(self.meanings(data), ["to 3", "to 2", "KILL_THREAD", "to 4, else 5", "KILL_THREAD",
@@ -163,8 +154,10 @@ class List(Case):
                 for jt, jf in ((0, 0), (255, 0), (0, 3))]
         for at in range(0, len(rows), 4096):
             data = b"".join(rows[at:at + 4096])
-            self.assertEqual([each.text for each in listing.instructions(data)],
-                             self.run_words([*CORE, "dis"], data)[1].split("\n")[:-1])
+            plain, listed = self.run_words([*CORE, "dis"], data)[1].split("\n")[:-1], self.listed(data)
+            self.assertEqual([each.text for each in listing.instructions(data)], plain)
+            self.assertEqual([re.sub(r" *//.*", "", re.sub(r"^ *[0-9]+  ", "", line)) for line in listed], plain)
+            self.assertEqual([int(line.split()[0]) for line in listed], list(range(len(plain))))
 
     def test_words_of_a_call(self):
         names = self.meanings(b"".join(load(4 * at) for at in range(16)) + load(64) + load(2))

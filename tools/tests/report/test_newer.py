@@ -1,7 +1,7 @@
 """Calls with greater numbers than all that a profile names, which a filter refuses otherwise than its profile, as runc
 makes them; and filters that differ elsewhere, too."""
 
-from support.common import ALLOW, EPERM, KILL_PROCESS, X86_64, Case, filter_of, jeq, load, profile_of, ret, stub
+from support.common import ALLOW, EPERM, Case, filter_of, gate, jeq, load, profile_of, ret, stub
 
 SAID = "syscalls with numbers above all that the profile names differ, the first is"
 ONLY_ANSWERS = "it is neither more permissive nor stricter than the profile: only the answers differ"
@@ -66,32 +66,20 @@ class Newer(Case):
         place = added.index(f"{SAID} set_mempolicy_home_node (450){BOTH}")
         self.assertLess(added.index("the syscall is number 400, which the table doesn't name"), place)
 
-    def test_newer_calls_that_are_allowed(self):
-        """A filter that lets newer calls through isn't said to deny them, nor one that lets one of them through."""
-        for code in (stub(450, ALLOW) + filter_of(self.rules),
-                     load(0) + jeq(500, 0, 1) + ret(ALLOW) + stub(450) + filter_of(self.rules),
-                     load(0) + jeq(LAST, 0, 1) + ret(ALLOW) + stub(450) + filter_of(self.rules)):
-            _, added = self.added(code)
-            self.assertFalse(any(SAID in line for line in added), added)
-            _, added = self.added(code, scope="--calls")
-            self.assertFalse(any(line.startswith("only syscalls with") for line in added), added)
-
-    def test_newer_calls_that_differ_by_an_argument(self):
-        """Whichever of them scf shows: one is let through for some arguments, or is refused in a third way, behind a
-        stub, or by ENOSYS where its other arguments are answered as the profile says."""
-        for answer, before in ((ALLOW, stub(450)), (0x00050016, stub(450)), (0x7FC00000, stub(450)), (0x00050026, b"")):
-            for number in (450, CACHESTAT, LAST, 500, 2**30 - 1):
-                some = load(0) + jeq(number, 0, 3) + load(16) + jeq(7, 0, 1) + ret(answer)
-                _, added = self.added(some + before + filter_of(self.rules))
-                self.assertFalse(any(SAID in line for line in added), (hex(answer), number, added))
-                self.assertTrue(before or added[0] == ONLY_ANSWERS, (number, added))
-
-    def test_a_profile_that_lets_newer_calls_through(self):
-        profile = self.file("lax.json", b'{"defaultAction":"SCMP_ACT_ALLOW","syscalls":[{"names":["read"],'
-                                        b'"action":"SCMP_ACT_ERRNO"}]}')
-        gate = load(4) + jeq(X86_64, 1, 0) + ret(KILL_PROCESS)
-        _, added = self.added(gate + stub(450) + jeq(0, 0, 1) + ret(EPERM) + ret(ALLOW), profile=profile)
-        self.assertFalse(any(SAID in line for line in added), added)
+    def test_what_is_not_said_to_be_denied(self):
+        """Newer calls that are let through, or one of them, if only for some arguments; one that is refused in a third
+        way for some, behind a stub, or by ENOSYS without one; and those that a profile lets through."""
+        lax = self.file("lax.json", b'{"defaultAction":"SCMP_ACT_ALLOW","syscalls":[{"names":["read"],'
+                                    b'"action":"SCMP_ACT_ERRNO"}]}')
+        rows = [(stub(450, ALLOW), None), (gate(stub(450) + jeq(0, 0, 1) + ret(EPERM) + ret(ALLOW)), lax),
+                *((load(0) + jeq(number, 0, 1) + ret(ALLOW) + stub(450), None) for number in (500, LAST)),
+                *((load(0) + jeq(number, 0, 3) + load(16) + jeq(7, 0, 1) + ret(answer) + before, None)
+                  for answer, before in ((ALLOW, stub(450)), (0x00050016, stub(450)), (0x7FC00000, stub(450)),
+                                         (0x00050026, b"")) for number in (450, CACHESTAT, LAST, 500, 2**30 - 1))]
+        for at, (code, profile) in enumerate(rows):
+            for scope in ("--native", "--calls")[:1 + (at < 4)]:
+                _, added = self.added(code + filter_of(self.rules), scope=scope, profile=profile)
+                self.assertFalse(any(SAID in line for line in added), (code, added))
 
     def test_calls_by_name(self):
         _, added = self.added(stub(450) + filter_of(self.rules), scope="--calls")
