@@ -120,9 +120,15 @@ class Pair:
         return replace(report, lines=tuple(lines))
 
     def run_unchecked(self, scope: str | None = None, relation: str | None = None) -> tuple[int, Report]:
-        """What `run` gives, without a second look at the record that is shown."""
+        """What `run` gives, without a second look at the record that is shown. Call by call in the tables of the
+        architectures a fault speaks for all, else the first verdict that fails, else the first that doesn't hold."""
         relation = relation or self.relation
-        return self.by_call(relation) if scope == CALLS else self.asked(SCOPES[scope or self.scope], relation)
+        if scope != CALLS:
+            return self.asked(SCOPES[scope or self.scope], relation)
+        results = [self.asked(SCOPES[CALLS], relation, name) for name in self.tables.of]
+        status, first = min(results, key=lambda result: () if result[1].verdict is None else result[1].verdict.order)
+        calls = [call for _, report in results for call in report.calls]
+        return status, first if first.verdict is None else Report.by_call(first.verdict, calls)
 
     def run(self, scope: str | None = None, relation: str | None = None) -> tuple[int, Report]:
         """scf's exit status and report over a scope, by default the pair's own, for this relation or its own."""
@@ -201,17 +207,6 @@ class Pair:
                     if answer is None or again.answer != answer:
                         raise program.InternalError(f"the filters answer {again.answer or again.line} where {answer} "
                                                     f"would be shown, to {' '.join(words)}")
-
-    def by_call(self, relation: str) -> tuple[int, Report]:
-        """scf's exit status and report, call by call in the tables of the architectures: the first verdict that fails,
-        else the first that doesn't hold, speaks for all."""
-        results = []
-        for name in self.tables.of:
-            results.append(self.asked(SCOPES[CALLS], relation, name))
-            if results[-1][1].verdict is None:
-                return results[-1]
-        status, first = min(results, key=lambda result: result[1].verdict.order)
-        return status, Report.by_call(first.verdict, [call for _, report in results for call in report.calls])
 
     # What follows is told by the differences; scf is asked where these don't tell.
 
@@ -424,16 +419,9 @@ class ProfileComparison(Pair):
             if why.fault is None:
                 raise program.ToolError(f"scf ended with status {why.status} on {self.title(0)}") from why
             return why.status, Report((line,), fault=Fault.read(line))
-        skipped, others = (dict.fromkeys(itertools.chain(*names))
-                           for names in zip(*((side.skipped, side.architectures) for side in self.left_out)))
-        return report.verdict.status, replace(report, skipped=(*skipped,), architectures=(*others,))
-
-
-def compare_unit(comparisons: Sequence[Pair], scope: str | None) -> tuple[Any, int, Report]:
-    """Of the comparisons of a side with each profile of a unit the one that speaks for all, with scf's status and
-    report: that of a fault, else the first that fails, else the first that doesn't hold."""
-    results = [comparison.run_by_stub(scope) for comparison in comparisons]
-    return min(results, key=lambda result: () if result[2].verdict is None else result[2].verdict.order)
+        left, right = self.left_out
+        return report.verdict.status, replace(report, skipped=(*dict.fromkeys(left.skipped + right.skipped),),
+                                              architectures=(*dict.fromkeys(left.architectures + right.architectures),))
 
 
 def pair_of(judged: Any, by: Any, table: Table, relation: str, is_native: bool = False, is_diff: bool = False,

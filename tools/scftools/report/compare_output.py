@@ -20,7 +20,7 @@ from ..forms import refusals
 from ..forms.profile_inputs import ProfileInput
 from . import listing
 from .blocks import Block
-from .compare import Pair, compare_unit
+from .compare import Pair
 
 # What is printed of syscalls that fail a relation.
 FAILED_RELATIONS = {DIFFERS: "that differ", MORE: "answered more permissively than by {}",
@@ -308,16 +308,17 @@ def comparison_json(comparison: Pair, report: Report, scope: str, status: int) -
 class Judgement:
     """A comparison, with scf's status and report over a scope."""
 
-    comparison: Any
+    comparison: Pair
     status: int
     first: Report
     scope: str
 
     @classmethod
     def of(cls, pairs: Sequence[Pair], scope: str | None) -> Judgement:
-        """That of a side by all that judge it, each for its architectures."""
-        pair, *found = compare_unit(pairs, scope)
-        return cls(pair, *found, scope or pair.scope)
+        """That of a side by all that judge it, each for its architectures, which speaks for all: that of a fault, else
+        the first that fails, else the first that doesn't hold."""
+        made = [cls(*pair.run_by_stub(scope), scope or pair.scope) for pair in pairs]
+        return min(made, key=lambda each: () if each.first.verdict is None else each.first.verdict.order)
 
     @functools.cached_property
     def report(self) -> Report:

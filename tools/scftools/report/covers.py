@@ -219,8 +219,7 @@ def _kept_apart(sets: Sets, alternatives: Sequence[Alternative]) -> list[Alterna
                 alternative = narrow
         before = before and sets.either(before, sets.of_conditions(alternative))
         kept.append(alternative)
-        tests[_first_test(sets, alternative)] = None
-        tests.pop(None, None)
+        tests.update(dict.fromkeys(filter(None, [_first_test(sets, alternative)])))
     return kept
 
 
@@ -228,9 +227,7 @@ def _without_needless(sets: Sets, alternatives: Sequence[Alternative]) -> list[A
     """The alternatives that cover something which the others don't."""
     nodes = [sets.of_conditions(alternative) for alternative in alternatives]
     # what the later ones cover
-    behind = [EMPTY_SET]
-    for node in reversed(nodes[1:]):
-        behind.append(sets.either(behind[-1], node))
+    behind = [EMPTY_SET, *itertools.accumulate(reversed(nodes[1:]), sets.either)]
     needed, before = [], EMPTY_SET
     for at, node in enumerate(nodes):
         if sets.without(node, sets.either(before, behind[-1 - at])):

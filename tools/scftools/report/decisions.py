@@ -94,7 +94,6 @@ class Numbering:
 
     def number_of(self, text: str) -> str:
         """The number, as scf takes it, of a syscall given by name or number."""
-        is_x32 = self.abi == architectures.X32
         if re.match("[A-Za-z_]", text):
             is_native = self.abi == architectures.NATIVE
             table = self.table if is_native else tables.architecture_table(self.abi)
@@ -107,12 +106,13 @@ class Numbering:
                 near, whose = tables.nearest(bare, table), "the table" if is_native else f"{self.architecture}'s table"
                 raise program.ToolError(f"{whose} has no syscall '{text}'"
                                         + (f"; the nearest name is '{near}'" if near else ""))
-            return str(number + (FIRST_X32 if is_x32 else 0))
+            text = str(number)
         if text == "-1":
             return hex(SKIPPED)
         number = number_in(text)
         # an x32 number has bit 30, whether or not it was given with it
-        return hex(number | FIRST_X32) if is_x32 and number is not None and number < FIRST_X32 else text
+        is_without = self.abi == architectures.X32 and number is not None and number < FIRST_X32
+        return hex(number | FIRST_X32) if is_without else text
 
     def argument(self, text: str) -> str:
         """An argument as scf takes it."""

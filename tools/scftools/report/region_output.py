@@ -1,6 +1,7 @@
 """Regions as people read them: the syscalls of an architecture by name, and conditions on arguments as C has them."""
 from __future__ import annotations
 
+import itertools
 from collections.abc import Iterator, Sequence
 
 from ..base import program
@@ -84,21 +85,19 @@ def conditions(region: Region, syscall: str, architecture: Architecture) -> list
 def listed(regions: Sequence[Region], table: Table, architecture: Architecture) -> list[Listed]:
     """The regions of an architecture's syscalls, in the order of the walk."""
     numbers = Numbers(regions, architecture)
-    of_region = by_key((id(region), number) for number in sorted(table.numbers())
-                       for region in numbers.of(architecture.first + number))
-    unnamed = by_key((id(region), (first, count)) for first, count, here in numbers.unnamed(table) for region in here)
+    named = ((number, 0, numbers.of(architecture.first + number)) for number in sorted(table.numbers()))
+    # of each region the numbers in the table, and the first numbers of ranges without a name, with their counts
+    of_region = by_key((id(region), (first, count)) for first, count, here in itertools.chain(
+        named, numbers.unnamed(table)) for region in here)
     entries: dict[tuple[object, ...], Listed] = {}
-    for region in regions:
-        numbers_of_region, others = of_region.get(id(region), []), unnamed.get(id(region), [])
-        if numbers_of_region or others:
-            where = conditions(region, table.names_of(numbers_of_region[0])[0] if len(numbers_of_region) == 1 else "",
-                               architecture)
-            key = region.line, region.is_exact, *where
-            if key not in entries:
-                first = (numbers_of_region or others[0])[0]
-                entries[key] = Listed(region, where, region.call_of(architecture.first + first, architecture.number))
-            entries[key].numbers += numbers_of_region
-            entries[key].unnamed += sum(count for _, count in others)
+    for region in (region for region in regions if id(region) in of_region):
+        firsts = of_region[id(region)]
+        own = [number for number, count in firsts if count == 0]
+        where = conditions(region, table.names_of(own[0])[0] if len(own) == 1 else "", architecture)
+        call = region.call_of(architecture.first + firsts[0][0], architecture.number)
+        entry = entries.setdefault((region.line, region.is_exact, *where), Listed(region, where, call))
+        entry.numbers += own
+        entry.unnamed += sum(count for _, count in firsts)
     return list(entries.values())
 
 
