@@ -56,7 +56,7 @@ def listed(bpf_filter, options, table, query):
     def lines():
         shown = list(listing.listing_lines(explained, len(explained)))
         if options.dot:
-            return flow_graph.Drawing(flow_graph.Graph(data), shown, table, indexes).text().splitlines()
+            return flow_graph.Graph(data).text(shown, table, indexes).splitlines()
         on_path = frozenset(indexes)
         return shown if path is None else [
             *(f"{'>' if index in on_path else ' '} {line}" for index, line in enumerate(shown)),

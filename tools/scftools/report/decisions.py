@@ -27,7 +27,8 @@ from .blocks import Block, of_fault
 # No name of a syscall and no number is longer; and the most syscalls of a list, for each of which scf is run, and
 # which together take some seconds.
 LONGEST_WORD, MOST_CALLS = 256, 2048
-FIELD_HELP = {"ip": "the instruction pointer", **{f"a{index}": f"argument {index}" for index in range(6)}}
+FIELD_HELP = {"ip": "the instruction pointer", **{f"a{index}": f"argument {index}" for index in range(6)},
+              "a0": "argument 0: a number, or constants such as AF_INET or CLONE_NEWUSER|SIGCHLD"}
 
 
 @dataclass(frozen=True)
@@ -53,9 +54,7 @@ def add_numbers(parser: Parser) -> None:
                         help="the architecture of the syscalls: a name such as i386 or aarch64, or its number, as the "
                              "audit log has it (c000003e) [default: x86-64]")
     for name in OPTIONS[2:]:
-        takes = "" if name == "ip" else ": a number, or constants such as AF_INET or CLONE_NEWUSER|SIGCHLD"
-        parser.add_argument(f"--{name}", metavar="N",
-                            help=f"{FIELD_HELP[name]}{takes if name == 'a0' else ''} [default: 0]")
+        parser.add_argument(f"--{name}", metavar="N", help=f"{FIELD_HELP[name]} [default: 0]")
 
 
 def add_options(parser: Parser) -> None:

@@ -36,6 +36,31 @@ def merged(first: Ranges, second: Ranges) -> Ranges:
     return ranges
 
 
+def _range_text(low: int, high: int, node: Node, table: Table) -> str:
+    """Values of the word that a node tests."""
+    texts = []
+    for value in (low, high):
+        texts.append(hex(value))
+        if node.word == NUMBER:
+            its = node.known.architectures
+            texts[-1] = "x32" if value == answers.FIRST_X32 and answers.X86_64 in its else name_of(value, its, table)
+        elif node.word == ARCHITECTURE:
+            texts[-1] = architectures.shown_name(value) or texts[-1]
+    return texts[0] if low == high else f"from {texts[0]} on" if high == GREATEST_WORD else " to ".join(texts)
+
+
+def quoted(text: str) -> str:
+    """A text of dot's language, each line of it at the left."""
+    lines = [output.escaped(line).replace("\\", "\\\\").replace('"', '\\"') for line in text.split("\n")]
+    return '"' + "".join(f"{line}\\l" for line in lines) + '"'
+
+
+def digraph(statements: Sequence[str]) -> str:
+    """The text of a graph with these nodes and edges."""
+    head = ["node [shape=box, fontname=monospace];", "edge [fontname=monospace];"]
+    return "".join(["digraph filter {\n", *(f"    {statement}\n" for statement in [*head, *statements]), "}\n"])
+
+
 @dataclass
 class Node:
     """A node: the indexes of its instructions, the word that it tests, if any, and where the values of that lead."""
@@ -116,70 +141,38 @@ class Graph:
                 node.targets[at] = merged(node.targets.get(at, []), ranges)
         return node
 
-
-def _range_text(low: int, high: int, node: Node, table: Table) -> str:
-    """Values of the word that a node tests."""
-    texts = []
-    for value in (low, high):
-        texts.append(hex(value))
-        if node.word == NUMBER:
-            its = node.known.architectures
-            texts[-1] = "x32" if value == answers.FIRST_X32 and answers.X86_64 in its else name_of(value, its, table)
-        elif node.word == ARCHITECTURE:
-            texts[-1] = architectures.shown_name(value) or texts[-1]
-    return texts[0] if low == high else f"from {texts[0]} on" if high == GREATEST_WORD else " to ".join(texts)
-
-
-def quoted(text: str) -> str:
-    """A text of dot's language, each line of it at the left."""
-    lines = [output.escaped(line).replace("\\", "\\\\").replace('"', '\\"') for line in text.split("\n")]
-    return '"' + "".join(f"{line}\\l" for line in lines) + '"'
-
-
-def digraph(statements: Sequence[str]) -> str:
-    """The text of a graph with these nodes and edges."""
-    head = ["node [shape=box, fontname=monospace];", "edge [fontname=monospace];"]
-    return "".join(["digraph filter {\n", *(f"    {statement}\n" for statement in [*head, *statements]), "}\n"])
-
-
-class Drawing:
-    """The text of a graph; the instructions that run on a syscall are marked."""
-
-    def __init__(self, graph: Graph, lines: Sequence[str], table: Table, path: Sequence[int] = ()) -> None:
-        self.graph, self.table = graph, table
-        # the lines of a listing, each without the spaces that align it
-        self.lines = [" ".join(line.split()) for line in lines]
-        # the nodes on the path, in their order, and the edges between them
-        self.way = list(map(graph.behind_jumps, path[:1]))
-        for index in map(graph.behind_jumps, path[1:]):
+    def way(self, path: Sequence[int]) -> list[int]:
+        """The nodes on a path, in their order."""
+        way = list(map(self.behind_jumps, path[:1]))
+        for index in map(self.behind_jumps, path[1:]):
             # (a node may contain the first instruction of another one)
-            if index in graph.nodes[self.way[-1]].targets:
-                self.way.append(index)
-        self.edges = set(zip(self.way, self.way[1:]))
+            if index in self.nodes[way[-1]].targets:
+                way.append(index)
+        return way
 
     def name_of(self, index: int) -> str:
         """The name of a node; of a return the answer's."""
-        insns = self.graph.insns
-        if index >= len(insns):
+        if index >= len(self.insns):
             return "end"
-        return f"r{insns[index].k}" if insns[index].code == RETURN_CONSTANT else f"n{index}"
+        return f"r{self.insns[index].k}" if self.insns[index].code == RETURN_CONSTANT else f"n{index}"
 
-    def text(self) -> str:
-        """The graph in dot's language."""
-        nodes, edges = [], []
-        for index, node in sorted(self.graph.nodes.items()):
-            name, insn, mark = self.name_of(index), self.graph.insns[index], MARK if index in self.way else ""
+    def text(self, lines: Sequence[str], table: Table, path: Sequence[int] = ()) -> str:
+        """The graph in dot's language, with the lines of a listing; the instructions on a path are marked."""
+        way, nodes, edges = self.way(path), [], []
+        for index, node in sorted(self.nodes.items()):
+            name, insn, mark = self.name_of(index), self.insns[index], MARK if index in way else ""
             if insn.code == RETURN_CONSTANT:
                 answer = answers.Answer.of_word(insn.k)
                 nodes.append(f"{name} [shape=ellipse, style=filled, fillcolor={COLOURS[answer.disposition]}, "
                              f"label={quoted(answer.named())}{mark}];")
                 continue
-            before = [at for at in node.indexes if node.word is None or not self.graph.insns[at].is_test]
-            lines, tests = [self.lines[at] for at in before], len(node.indexes) - len(before)
+            before = [at for at in node.indexes if node.word is None or not self.insns[at].is_test]
+            # (without the spaces that align a listing)
+            shown, tests = [" ".join(lines[at].split()) for at in before], len(node.indexes) - len(before)
             if node.word is not None:
-                shown = f"{tests} tests, the last is {max(node.indexes)}" if tests > 1 else f"{node.indexes[-1]}"
-                lines.append(f"{WORDS[node.word]}? ({shown})")
-            label = quoted("\n".join(lines))
+                which = f"{tests} tests, the last is {max(node.indexes)}" if tests > 1 else f"{node.indexes[-1]}"
+                shown.append(f"{WORDS[node.word]}? ({which})")
+            label = quoted("\n".join(shown))
             nodes.append(f"{name} [label={label}{mark}];")
             sizes = {target: sum(high - low + 1 for low, high in ranges) for target, ranges in node.targets.items()}
             fallback = max(sizes, key=lambda target: sizes[target], default=None)
@@ -191,7 +184,7 @@ class Drawing:
                 else:
                     # which values of a word lead there
                     more = [f"and {len(ranges) - MOST_RANGES} more ranges"] * (len(ranges) > MOST_RANGES)
-                    text = "\n".join([*(_range_text(*part, node, self.table) for part in ranges[:MOST_RANGES]), *more])
-                mark = MARK if (index, target) in self.edges else ""
+                    text = "\n".join([*(_range_text(*part, node, table) for part in ranges[:MOST_RANGES]), *more])
+                mark = MARK if (index, target) in zip(way, way[1:]) else ""
                 edges.append(f"{name} -> {self.name_of(target)} [label={quoted(text)}{mark}];")
         return digraph([*nodes, *edges])

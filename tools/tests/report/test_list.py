@@ -8,7 +8,6 @@ import unittest
 
 from support.common import (ALLOW, CORE, EPERM, I386, KILL_PROCESS, X86_64, Case, completed, filter_of, insn, jeq, jge,
                             load, ret)
-from scftools.model import tables
 from scftools.model.calls import Call
 from scftools.forms.filters import Filter
 from scftools.report import flow_graph, listing
@@ -229,7 +228,7 @@ class Graph(Case):
             for number, first in itertools.product(range(12), (0, 1, 3, 2**32 + 3)):
                 call = Call(number, arguments=(first, *[0] * 5))
                 places = listing.path_of(Filter("", data), call.words()).indexes
-                way = flow_graph.Drawing(graph, [""] * (len(data) // 8), tables.read_table(None), places).way
+                way = graph.way(places)
                 self.assertEqual(way[0], graph.behind_jumps(0))
                 self.assertEqual(way[-1], graph.behind_jumps(places[-1]))
                 words = {0: number, 1: X86_64, 4: first & 0xFFFFFFFF, 5: first >> 32}
