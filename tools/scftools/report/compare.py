@@ -33,8 +33,7 @@ TURNED = {NO_MORE: NO_LESS, NO_LESS: NO_MORE, MORE: LESS, LESS: MORE}
 @dataclass(frozen=True)
 class Pair:
     """Two sides whose answers are compared, as they are shown, and x86-64's table. The relation and all verdicts are
-    scf's, of the left side to the right one: that one judges, or in a turned pair the left one; in a diff the old one.
-    """
+    scf's, of the left side to the right one: that one judges, in a turned pair the left one, in a diff the old one."""
 
     left: Sequence[Filter] | ProfileInput
     right: Any
@@ -193,8 +192,7 @@ class Pair:
         return done.status, verdicts.report(done.text, pointer, JUDGED[name or NATIVE])
 
     def check(self, report: Report) -> None:
-        """Raises InternalError if the filters don't answer the calls of a report as it would be shown, by the
-        differences, or else by themselves."""
+        """Raises InternalError if the filters answer a report's calls otherwise, by the differences or by themselves."""
         for verdict in (report.verdict, *(call.verdict for call in report.calls)):
             # (a record without its instruction pointer can't be answered)
             if verdict is None or verdict.call is None or verdict.call.pointer is None:
@@ -389,8 +387,7 @@ class ProfileComparison(Pair):
 
     @functools.cached_property
     def stacks(self) -> list[list[bytes]]:
-        """The left profile's filter, but where scf takes both with the same tables, stubs and reading. Raises Refusal.
-        """
+        """The left profile's filter, unless scf takes both with the same tables, stubs and reading. Raises Refusal."""
         left, right = self.judged
         is_alike = (left.words, left.parts) == (right.words, right.parts)
         return [] if is_alike else [[client.compile_profile(self.left.data, left)]]

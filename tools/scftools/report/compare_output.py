@@ -100,9 +100,7 @@ def count_lines(comparison: Pair, calls: Sequence[NamedCall]) -> Iterator[str]:
 
 def _call_lines(comparison: Pair, report: Any, scope: str) -> tuple[list[str], list[str]]:
     """The lines before and after the explanation of scf's example, if syscalls differ; call by call they are scf's.
-
-    Syscalls that are only newer than the profile are reported apart: first if there are no others, else last.
-    """
+    Syscalls that are only newer than the profile are reported apart: first if there are no others, else last."""
     calls = comparison.named_calls if scope != CALLS else report.calls
     if calls is None or report.verdict.call is None and scope != CALLS:
         return [], []
@@ -220,12 +218,8 @@ def fault_sentences(comparison: Pair, fault: Fault) -> Iterator[str]:
 
 
 def _responsible_files(comparison: Pair, report: Report, scope: str) -> Iterator[tuple[str, str]]:
-    """The files of the filters that cause a fault or are undecided by themselves, each with a line, where there are
-    several filters.
-
-    The index that scf prints for an undecided stack may belong to another filter, which only the undecided syscalls
-    reach.
-    """
+    """The files of those of several filters that cause a fault or are undecided by themselves, each with a line. The
+    index that scf prints for an undecided stack may be another one's, which only the undecided syscalls reach."""
     stacks = [() if isinstance(side, ProfileInput) else side for side in comparison.sides]
     if sum(map(len, stacks)) < 2:
         return

@@ -46,11 +46,8 @@ class _Listing:
         self.indices = sorted({variable // sets.bits for variable in sets.variables(whole)})
 
     def _cube(self, values: int, index: int, value: int) -> Condition:
-        """A wide masked condition that holds of a value, and only of some values.
-
-        Of a half that is compared as a whole, or from some bit on, only the lowest bits are dropped, to cover a long
-        run.
-        """
+        """A wide masked condition that holds of a value, and only of some values. Of a half that is compared as a
+        whole, or from some bit on, only the lowest bits are dropped, to cover a long run."""
         (first, last), width = self.sets.run_around(values, index, value), self.sets.bits
         lowest = 0
         while last - first >= MOST_LISTED_VALUES and value & ~((2 << lowest) - 1) >= first and \
@@ -206,10 +203,8 @@ def _apart(sets: Sets, alternative: Alternative, others: Iterable[FirstTest]) ->
 
 
 def _kept_apart(sets: Sets, alternatives: Sequence[Alternative]) -> list[Alternative]:
-    """The alternatives with first tests that are apart as far as the ones before cover what that leaves out.
-
-    A comparison asks one test after the other, and follows each choice of those that may hold at once.
-    """
+    """The alternatives with first tests that are apart as far as the ones before cover what that leaves out: a
+    comparison asks one test after the other, and follows each choice of those that may hold at once."""
     kept, before, tests = [], EMPTY_SET, {}
     for alternative in alternatives:
         narrow = _apart(sets, alternative, tests)

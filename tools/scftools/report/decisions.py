@@ -242,8 +242,7 @@ ROW = Pattern(r"([^=]+)=\s*([A-Z_]+)(?:\s+(\S+))?")
 
 @dataclass(frozen=True)
 class ExpectedRow:
-    """A row: its line, from 1 on, the syscall as it is written and as a record, and the answer that is expected;
-    without data any."""
+    """A row: its line, from 1 on, the syscall as written and as a record, and the expected answer, without data any."""
 
     line: int
     text: str

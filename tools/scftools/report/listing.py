@@ -233,17 +233,14 @@ def path_of(bpf_filter: Filter, words: Sequence[str], with_path: bool = True) ->
 
 
 def givers(paths: Sequence[Path], answer: Answer | None) -> list[Path]:
-    """The paths of a stack's filters, oldest first, that give this answer; if it is the stack's, the kernel takes it
-    from the last of them.
-
-    It runs the newest first, and of equal actions keeps the one that it has (seccomp_run_filters in kernel/seccomp.c).
+    """The paths of a stack's filters, oldest first, that give this answer. The kernel takes the stack's from the last:
+    it runs the newest first, and of equal actions keeps the one that it has (seccomp_run_filters in kernel/seccomp.c).
     """
     return [path for path in paths if path.indexes and path.decision.answer == answer]
 
 
 def run_stack(filters: Sequence[Filter], words: Sequence[str]) -> tuple[int, verdicts.Decision, list[Path]]:
-    """scf's status, what a stack answers to the record that scf's options give, and the path of each of its filters,
-    oldest first."""
+    """scf's status, a stack's answer to the record that scf's options give, and its filters' paths, oldest first."""
     done = client.run_scf(["decide", *words, "--path"], bundles.stack_bundle([each.data for each in filters]))
     runs = done.lines[1:]
     return done.status, verdicts.decision(done.text), [Path.read(bpf_filter, done.status, runs[2 * at:2 * at + 2])
@@ -251,8 +248,7 @@ def run_stack(filters: Sequence[Filter], words: Sequence[str]) -> tuple[int, ver
 
 
 def deciding_filters(stacks: Sequence[tuple[Sequence[Filter], Answer]], words: Sequence[str]) -> list[list[Path]]:
-    """The paths of some stacks' filters, oldest first, that give these answers: by one start of scf, if all of them fit
-    into a stack."""
+    """The paths of stacks' filters, oldest first, that give these answers: by one start of scf, if all are a stack."""
     _, decision, run_paths = run_stack([bpf_filter for filters, _ in stacks for bpf_filter in filters], words)
     if decision.answer is None and len(stacks) > 1:
         return [found for each in stacks for found in deciding_filters([each], words)]
@@ -261,11 +257,9 @@ def deciding_filters(stacks: Sequence[tuple[Sequence[Filter], Answer]], words: S
 
 
 def to_show(givers: Sequence[Path]) -> Path | None:
-    """The path that is shown, of several filters that give the answer: the newest's, whose answer the kernel takes.
-
-    The kernel begins with ALLOW and takes it from no filter: then it is the one that runs the most instructions, since
-    others may not even load the syscall number.
-    """
+    """The path that is shown, of several filters that give the answer: the newest's, whose answer the kernel takes. It
+    begins with ALLOW and takes it from no filter: then it is the one on which the most instructions run, since others
+    may not even load the syscall number."""
     if not givers:
         return None
     answer = givers[-1].decision.answer

@@ -30,10 +30,7 @@ ANSWERS = {answer.disposition: answer for answer in (EVERYTHING, Answer("TRACE",
 @dataclass(frozen=True)
 class Conditions:
     """The answers to all calls of an architecture's syscall: one for each of some alternatives, and one for all other
-    arguments.
-
-    If they aren't whole, each stands for all answers of its disposition: no profile gives the filters' own.
-    """
+    arguments. If not whole, each stands for all answers of its disposition: no profile gives the filters' own."""
 
     names: Sequence[str]
     parts: Sequence[tuple[Answer, Sequence[Alternative]]]
@@ -55,8 +52,7 @@ class Conditions:
         return f"{'; '.join(parts)}, else {self._answer_text(self.otherwise)}"
 
     def _json_of(self, answer: Answer) -> dict[str, object]:
-        whole = {"answer": answer.as_json()} if self.is_whole else {}
-        return {"disposition": answer.disposition, **whole}
+        return {"disposition": answer.disposition, **({"answer": answer.as_json()} if self.is_whole else {})}
 
     def as_json(self) -> dict[str, object]:
         return {"where": [{**self._json_of(answer),
