@@ -192,7 +192,7 @@ class Pair:
         return done.status, verdicts.report(done.text, pointer, JUDGED[name or NATIVE])
 
     def check(self, report: Report) -> None:
-        """Raises InternalError if the filters answer a report's calls otherwise, by the differences or by themselves."""
+        """Raises InternalError if the filters answer a report's calls otherwise, by the differences or themselves."""
         for verdict in (report.verdict, *(call.verdict for call in report.calls)):
             # (a record without its instruction pointer can't be answered)
             if verdict is None or verdict.call is None or verdict.call.pointer is None:

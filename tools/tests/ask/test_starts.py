@@ -117,6 +117,11 @@ class Starts(Counting):
                 self.assertEqual(self.starts("compare", *words, name, given, status=1), 3, words)
         self.assertEqual(self.starts("compare", self.file("f.bpf", filter_of(numbers)), given), 1)
 
+    def test_decide(self):
+        """A stack's answer, and the path of each of its filters."""
+        files = self.filter_files([ret(EPERM), ret(EPERM), ret(ALLOW)])
+        self.assertEqual(self.starts("decide", "--nr=41", *files), 1)
+
     def test_each_kind_of_side(self):
         """What is the same is one answer; where profiles are involved, their entries are part of it."""
         few, many = ({"bpf": self.file(f"{at}.bpf", filter_of(numbers)),

@@ -2,13 +2,17 @@
 import json
 import os
 import re
+import unittest
+from unittest import mock
 
 from support.common import (ALLOW, CORE, EPERM, I386, KILL_PROCESS, KILL_THREAD, TABLE, TOP, UNKNOWN_ZERO, X86_64, Case,
                             filter_of, gate, insn, jeq, jge, load, part, profile_of, ret, stub, text_of)
 from scftools.model import bundles, profiles, tables
 from scftools.ask import client
+from scftools.ask.verdicts import NATIVE_SCOPE
+from scftools.forms.filters import Filter
 from scftools.forms.profile_inputs import ProfileInput
-from scftools.report import compare
+from scftools.report import compare, compare_output
 
 READ, WRITE, EXIT_GROUP = 0, 1, 231
 
@@ -395,49 +399,33 @@ class OtherAbis(Case):
         self.assertEqual((native[0], native[1].split("\n")[0]), (4, self.UNDETERMINED))
 
 
-FAKE = """#!/bin/sh
-case "$*" in
-'compare --help') echo ' --native ' ;;
-answers*) echo unfinished; exit 4 ;;
-*' --no-'*) echo "$@" >>"$KEPT.relations"; echo unfinished; exit 4 ;;
-'compare --calls'*) echo "$@" >"$KEPT.calls"; echo differs; echo 39 getpid unfinished; exit 1 ;;
-compare*) cat >"$KEPT"; echo "$@" >"$KEPT.words"; echo differs
-    echo call nr 39 arch 0xc000003e ip 0x0 args 0x0 0x0 0x0 0x0 0x0 0x0
-    echo filter ALLOW 0; echo profile ERRNO 1; exit 1 ;;
-'decide --nr=0x27 '*) cat >/dev/null; echo ALLOW 0 ;;
-esac
-"""
+class WithAnotherScf(unittest.TestCase):
+    """What scf is asked where it lists no differences, and what is made of its lines."""
 
+    SAYS = {"answers": (4, "unfinished"), "compare --native --no": (4, "unfinished"), "decide": (0, "ALLOW 0"),
+            "compare --calls": (1, "differs\n39 getpid unfinished"), "ask": (0, ""), "compare --native --limit": (
+                1, "differs\ncall nr 39 arch 0xc000003e ip 0x0 args 0x0 0x0 0x0 0x0 0x0 0x0\nfilter ALLOW 0\n"
+                   "profile ERRNO 1")}
 
-STACK = """#!/bin/sh
-echo "$@" >>"$KEPT"; cat >/dev/null
-echo ERRNO 1 at 1:2
-echo ERRNO 1 steps 3; echo path 0 1 3; echo ERRNO 1 steps 2; echo path 0 2; echo ALLOW 0 steps 1; echo path 0
-"""
+    def test_each_question(self):
+        """Filters stand oldest first, and each question has the limit."""
+        asked = {}
 
+        def run(words, given=b"", *_):
+            asked[" ".join(words)] = given
+            status, text = next(says for words, says in self.SAYS.items() if list(asked)[-1].startswith(words))
+            return client.Run(status, f"{text}\n".encode())
 
-class WithAnotherScf(Case):
-    """What the tool hands to scf, and what it makes of lines, by a program that stands in for scf."""
-
-    def run_fake(self, *words):
-        tree = self.made_tree(FAKE)
-        copy = os.path.join(self.folder, "kept")
-        for name, data in (("a.bpf", b"A\0AA"), ("b.bpf", b"B\0"), ("p.json", b"{}"), ("t", b"getpid 39\n")):
-            self.file(name, data)
-        done = self.run_words([os.path.join(tree, "tools", "compare"), *words], env={**os.environ, "KEPT": copy})
-        with open(copy, "rb") as bundle, open(f"{copy}.words", encoding="ascii") as handed:
-            return done, bundle.read(), handed.read()
-
-    def test_filters_stand_oldest_first(self):
-        done, bundle, words = self.run_fake("--native", "--limit", "7", "--table", "t", "a.bpf", "b.bpf", "p.json")
-        self.assertEqual(bundle, part("filter", b"A\0AA") + part("filter", b"B\0") + part("profile", b"{}")
-                         + part("table", b"getpid 39\n"))
-        self.assertEqual(words, "compare --native --limit=7\n")
-        self.assertIn("without a verdict: 1\n# 39 getpid unfinished\n", done[1])
-        self.assertEqual(text_of(os.path.join(self.folder, "kept.calls")), "compare --calls --limit=7\n")
-        self.assertEqual(text_of(self.folder, "kept.relations").split("\n"), [f"compare --native --no-{word} --limit=7"
-                                                                              for word in ("more", "less")] + [""])
-        self.assertEqual(self.run_fake("--all", "--table", "t", "a.bpf", "p.json")[2], "compare --limit=1000000000\n")
+        pair = compare.Comparison([Filter("a", b"A\0AA"), Filter("b", b"B\0")], ProfileInput(b"{}"),
+                                  tables.Table(b"getpid 39\n"), is_native=True)
+        with mock.patch.object(client, "run_scf", run), mock.patch.dict(client.limits, {"limit": "7"}):
+            report = compare_output.Judgement.of([pair], NATIVE_SCOPE).report
+            lines = [*compare_output.comparison_notes(pair, report, NATIVE_SCOPE)]
+        self.assertEqual(asked["compare --native --limit=7"], part("filter", b"A\0AA") + part("filter", b"B\0")
+                         + part("profile", b"{}") + part("table", b"getpid 39\n"))
+        self.assertEqual([words for words in asked if words[:3] == "com"], [f"compare {words} --limit=7" for words in (
+            "--native", "--native --no-more", "--native --no-less", "--calls")])
+        self.assertEqual(lines[-2:], ["syscalls in the table without a verdict: 1", "39 getpid unfinished"])
 
 
 class Decide(Case):
@@ -469,17 +457,6 @@ class Decide(Case):
         out = self.run_tool("decide", "--nr=0", "--arch", "0x40000003", self.filter)[1]
         self.assertEqual(out, "KILL_PROCESS 0\n# the syscall is restart_syscall (0) of the architecture i386\n"
                          "# KILL_PROCESS: the process is killed\n# the path in the filter: 0-2\n")
-
-    def test_one_start_of_scf(self):
-        """The answer of a stack and how each of its filters runs come from one start."""
-        tree, kept = self.made_tree(STACK), os.path.join(self.folder, "kept")
-        files = [self.file(name, ret(EPERM)) for name in ("one.bpf", "two.bpf", "three.bpf")]
-        done = self.run_words([os.path.join(tree, "tools", "decide"), "--nr=41", *files],
-                              env={**os.environ, "KEPT": kept})
-        self.assertEqual(done, (0, "ERRNO 1\n# the syscall is socket (41)\n# ERRNO 1: the syscall fails with EPERM\n"
-                                   f"# the filters that answer so are {files[0]} and {files[1]}\n"
-                                   f"# the path in {files[1]}: 0 2\n", ""))
-        self.assertEqual(text_of(kept), "decide --nr=41 --path\n")
 
     def test_faults_and_wrong_words(self):
         out = self.output_of(2, "decide", "--nr=0", self.file("e.bpf", b""))

@@ -3,6 +3,7 @@ import json
 import os
 import random
 import unittest
+from unittest import mock
 
 from support.common import Case, ret, tool
 from support.confined import ended, started
@@ -11,6 +12,7 @@ import kernel_profiles
 from kernel_profiles import answer_of
 from scftools.model import tables
 from scftools.model.calls import Call
+from scftools.ask import client
 from scftools.forms.profile_inputs import ProfileInput
 from scftools.report import changes, compare
 
@@ -220,31 +222,27 @@ class Program(Pair):
         self.assertIn("0 read unfinished", lines)
 
     def test_undecided(self):
-        """By a program that stands in for scf: nothing is guessed of the calls."""
-        tree = self.made_tree("""#!/bin/sh
-cat >/dev/null
-case "$*" in
-compile) printf 12345678 ;;
-*--calls*--no-*) printf 'undecided at 3\\n1 write undecided at 3\\n'; exit 4 ;;
-*--calls*)
-    printf 'differs\\n1 write differs args 0x1 0x0 0x0 0x0 0x0 0x0 filter ALLOW 0 profile ERRNO 1\\n'
-    exit 1 ;;
-answers*) echo unfinished; exit 4 ;;
-ask*) echo ALLOW 0 entry 0 ;;
-decide*) echo ALLOW 0 ;;
-*) echo undecided at 3; exit 4 ;;
-esac
-""")
-        given = self.file("p.json", READ_WRITE)
-        status, out, _ = self.run_words([os.path.join(tree, "tools", "compare-profiles"), given, given])
-        lines = out.split("\n")
-        self.assertEqual((status, lines[:4]), (1, [
-            "differs", "more 0, less 0, otherwise 0, undecided 1",
-            "# syscalls that are undecided: 1",
-            "1 write undecided args 0x1 0x0 0x0 0x0 0x0 0x0 old ALLOW entry 0 new ALLOW entry 0"]))
-        self.assertEqual(out.count("\n# not known: allow more splits and steps, --splits N --limit N\n"), 1)
-        status, out, _ = self.run_words([os.path.join(tree, "tools", "compare-profiles"), "--no-more", given, given])
-        self.assertEqual((status, out.split("\n")[0]), (4, "undecided at 3".partition(" ")[0]))
+        """Where scf decides nothing, nothing is guessed of the calls."""
+        says = {"answers": (4, "unfinished"), "ask": (0, "ALLOW 0 entry 0"), "compare --calls": (
+            1, f"differs\n1 write differs {NO_ARGUMENTS} filter ALLOW 0 profile ERRNO 1"),
+                "compare": (4, "undecided at 3")}
+
+        def run(words, *_):
+            status, text = next(says[words_of] for words_of in says if " ".join(words).startswith(words_of))
+            return client.Run(status, f"{text}\n".encode())
+
+        given, table = ProfileInput(READ_WRITE.encode()), tables.read_table(None)
+        with mock.patch.object(client, "run_scf", run):
+            made = []
+            for relation in ("same", "no more"):
+                pair = compare.pair_of(given, given, table, relation, is_diff=True)
+                made.append(changes.changes_of(pair, pair.run()[1]))
+            lines = [*changes.change_lines(made[0])]
+        self.assertEqual(lines[:4], ["differs", "more 0, less 0, otherwise 0, undecided 1",
+                                     "# syscalls that are undecided: 1",
+                                     f"1 write undecided {NO_ARGUMENTS} old ALLOW entry 0 new ALLOW entry 0"])
+        self.assertEqual(lines[-1], "# not known: allow more splits and steps, --splits N --limit N")
+        self.assertEqual([each.verdict.word for each in made], ["differs", "undecided"])
 
 
 class Engines(Pair):
