@@ -96,11 +96,10 @@ class Program(Pair):
                                       (profile(("read mount", "ALLOW", {})), 1, 1),
                                       (profile(("read write", "LOG", {})), 0, 0),
                                       (profile(("read write", "ALLOW", {}), default="SCMP_ACT_TRACE"), 1, 0)):
-            for flag, status in (("--no-more", no_more), ("--no-less", no_less)):
-                exit_status, lines = self.compared(READ_WRITE, new, flag)
-                held, fails = ("no more", "more") if flag == "--no-more" else ("no less", "less")
-                self.assertEqual((exit_status, lines[0]), (status, fails if status else held), (new, flag))
-            self.assertEqual(self.compared(READ_WRITE, new)[0], 1)
+            for words, status, says in (((), 1, "differs"), (("--no-more",), no_more, ("no more", "more")[no_more]),
+                                        (("--no-less",), no_less, ("no less", "less")[no_less])):
+                actual, lines = self.compared(READ_WRITE, new, *words)
+                self.assertEqual((actual, lines[0]), (status, says), (new, words))
 
     def test_numbers_without_a_name(self):
         status, lines = self.compared(READ_WRITE, profile(("read write", "ALLOW", {}), defaultErrnoRet=38), "--table",

@@ -50,21 +50,16 @@ class Newer(Case):
         self.assertTrue(added[1].startswith(f"only {SAID} set_mempolicy_home_node (450)"), added)
 
     def test_others_come_first_and_are_counted_apart(self):
-        lax = stub(450) + filter_of([*self.rules, 41])
-        _, added = self.added(lax)
-        self.assertFalse(any(line.startswith("only ") for line in added), added)
-        place = added.index(f"{SAID} set_mempolicy_home_node (450){BOTH}")
-        other_place = added.index("syscalls in the table that differ: 1")
-        self.assertLess(other_place, place)
-        self.assertTrue(added[other_place + 1].startswith("41 socket differs "))
-        self.assertEqual(added[place + 1], f"syscalls in the table among these: {COUNT_FROM_450}")
-
-    def test_another_call_without_a_name(self):
         """400 has no name: it is told by the call and both answers."""
-        _, added = self.added(stub(450) + filter_of([*self.rules, 400]))
-        self.assertFalse(any(line.startswith("only ") for line in added), added)
-        place = added.index(f"{SAID} set_mempolicy_home_node (450){BOTH}")
-        self.assertLess(added.index("the syscall is number 400, which the table doesn't name"), place)
+        differs = "41 socket differs args 0x0 0x0 0x0 0x0 0x0 0x0 filter ALLOW 0 profile ERRNO 1"
+        for number, lines in ((41, ["syscalls in the table that differ: 1", differs]),
+                              (400, ["the syscall is number 400, which the table doesn't name",
+                                     "the filter answers ALLOW: the syscall is executed"])):
+            _, added = self.added(stub(450) + filter_of([*self.rules, number]))
+            place, other_place = added.index(f"{SAID} set_mempolicy_home_node (450){BOTH}"), added.index(lines[0])
+            self.assertLess(other_place, place)
+            self.assertEqual(added[other_place:other_place + 2], lines)
+            self.assertEqual(added[place + 1], f"syscalls in the table among these: {COUNT_FROM_450}")
 
     def test_what_is_not_said_to_be_denied(self):
         """Newer calls that are let through, or one of them, if only for some arguments; one that is refused in a third
