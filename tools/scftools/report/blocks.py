@@ -35,8 +35,7 @@ def of_threads(stack: Stack, inspection: Inspection) -> Iterator[str]:
         else:
             line = f"{who} has {stack.description}" + (f", in each of its {count} threads" if count > 1 else "")
         if not stack.filters and not stack.is_strict:
-            line += ": they aren't confined" if len(threads) > 1 else ": it isn't confined"
-            line += ", and every syscall is allowed"
+            line += f": {'they are' if len(threads) > 1 else 'it is'}n't confined, and every syscall is allowed"
         yield line
 
 

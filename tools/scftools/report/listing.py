@@ -72,13 +72,8 @@ class Instruction:
 
     def targets(self, index: int) -> list[int]:
         """The indexes of its successors, given its own."""
-        if self.kind == RETURNS:
-            return []
-        if self.code == JUMP:
-            return [index + 1 + self.k]
-        if self.kind == JUMPS:
-            return [index + 1 + self.if_true, index + 1 + self.if_false]
-        return [index + 1]
+        of_jump = [self.k] if self.code == JUMP else [self.if_true, self.if_false]
+        return [index + 1 + offset for offset in {RETURNS: [], JUMPS: of_jump}.get(self.kind, [0])]
 
 
 def instructions(data: bytes) -> list[Instruction]:
