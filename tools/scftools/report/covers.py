@@ -64,21 +64,17 @@ class _Listing:
 
     def _alternative(self, arguments: Sequence[int], order: Sequence[int]) -> Alternative:
         """An alternative that holds of these arguments, made as wide as the set allows, in this order."""
-        sets = self.sets
-        conditions: dict[int, Condition | None] = {
-            index: Condition(index, "SCMP_CMP_EQ", arguments[index], 0) for index in self.indices}
+        sets, conditions = self.sets, {index: Condition(index, EQUAL, arguments[index], 0) for index in self.indices}
         for index in order:
-            others = sets.of_conditions(condition for at, condition in conditions.items() if at != index
-                                        and condition is not None)
+            own, value = conditions.pop(index), arguments[index]
+            others = sets.of_conditions(conditions[at] for at in self.indices if at in conditions)
             values = sets.complement(sets.of_argument(sets.both(others, self.outside), index))
-            value, candidates = arguments[index], []
+            # the widest one that holds of the value, and only of some values; none if of all
             if values != FULL_SET:
                 ranges = (each for each in _ranges(sets, values, index) if HOLDS[each.op](value, each.value, each.two))
-                candidates = [Condition(index, "SCMP_CMP_EQ", value, 0), *ranges, self._cube(values, index, value)]
-            # the widest one that holds of the value, and only of some values; none if of all
-            conditions[index] = max(candidates, key=lambda candidate: sets.weight(sets.of_condition(candidate)),
-                                    default=None)
-        return tuple(condition for condition in conditions.values() if condition is not None)
+                conditions[index] = max((own, *ranges, self._cube(values, index, value)),
+                                        key=lambda candidate: sets.weight(sets.of_condition(candidate)))
+        return tuple(conditions[index] for index in self.indices if index in conditions)
 
     def find(self) -> list[Alternative] | None:
         """The alternatives, each of which covers the most of what is left from its least on; None if too many."""
