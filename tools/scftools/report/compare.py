@@ -243,7 +243,8 @@ class Pair:
     @functools.cached_property
     def left_out(self) -> list[Report]:
         """What scf leaves out of each profile: names that no table has, and architectures without one."""
-        return [Report((), skipped=tuple(name for name in profiles.names_of(side.data) if judged.number_of(name) is None),
+        return [Report((), skipped=tuple(syscall for syscall in profiles.names_of(side.data)
+                                         if judged.number_of(syscall) is None),
                        architectures=tuple(oci for oci in profiles.architectures_of(side.data) if oci not in judged.of))
                 for side, judged in zip(self.sides, self.judged) if isinstance(side, ProfileInput)]
 
