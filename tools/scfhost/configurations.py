@@ -31,6 +31,12 @@ class ContainerError(program.ToolError):
     """Why it is unknown whether a container is confined."""
 
 
+def part(value: Any, name: str, kind: type) -> Any:
+    """A member of an object, an empty one if it isn't of this type."""
+    found = value.get(name) if isinstance(value, dict) else None
+    return found if isinstance(found, kind) else kind()
+
+
 def configuration_in(data: bytes) -> dict[str, Any] | None:
     """A container's configuration (config.json) as JSON; None if a text is something else, or can't be read. Raises
     ContainerError if it is a container's state."""
@@ -99,24 +105,31 @@ def why_not_its(kernel: Kernel, process: int, config: dict[str, Any]) -> str | N
     A container's identifier stands in the path that its configuration gives its control group, and in that of the
     groups of its processes; and where a configuration makes a PID namespace, its processes aren't in the machine's own.
     """
-    linux = config.get("linux")
-    linux = linux if isinstance(linux, dict) else {}
-    who = f"process {process} ({output.escaped(kernel.name_of(process))})"
-    path, spaces = linux.get("cgroupsPath"), linux.get("namespaces")
-    stated, actual = identifiers_in(path) if isinstance(path, str) else [], identifiers_of(kernel, process)
+    linux, who = part(config, "linux", dict), f"process {process} ({output.escaped(kernel.name_of(process))})"
+    stated, actual = identifiers_in(part(linux, "cgroupsPath", str)), identifiers_of(kernel, process)
     if stated and actual and stated[-1] not in actual:
         return (f"the configuration is that of the container {stated[-1][:SHORT]}, and {who} is in the container "
                 f"{actual[-1][:SHORT]}")
-    makes_space = isinstance(spaces, list) and {"type": "pid"} in spaces
-    if makes_space and [inode for _, inode in kernel.namespaces_of(process)] == [PROC_PID_INIT_INO]:
+    if {"type": "pid"} in part(linux, "namespaces", list) and \
+            [inode for _, inode in kernel.namespaces_of(process)] == [PROC_PID_INIT_INO]:
         return f"{who} is in no container with this configuration, which has a PID namespace of its own"
     return None
 
 
-def started_seccomp(state: Any) -> dict[str, Any] | None:
-    """The settings in a state.json, as a config.json has them; None if the container has none. Raises LookupError,
-    TypeError or AttributeError if they aren't as expected."""
-    settings = state["config"]["seccomp"]
+def as_started(configuration: Any, state: Any) -> Any:
+    """A configuration, with the seccomp settings in a state.json if these are others."""
+    linux = configuration.get("linux") or {} if isinstance(configuration, dict) else {}
+    try:
+        started = _started_seccomp(state["config"]["seccomp"])
+        if _comparable(started) == _comparable(linux.get("seccomp")):
+            return configuration
+    except (LookupError, TypeError, AttributeError):
+        return configuration
+    return {**configuration, "linux": {**linux, "seccomp": started}}
+
+
+def _started_seccomp(settings: Any) -> dict[str, Any] | None:
+    """The settings of a state.json, as a config.json has them; None if the container has none."""
     if settings is None:
         return None
     entries = [_without_empty({
@@ -135,7 +148,7 @@ def _without_empty(members: dict[str, Any]) -> dict[str, Any]:
     return {name: value for name, value in members.items() if value not in (None, [])}
 
 
-def comparable(seccomp: Any) -> object:
+def _comparable(seccomp: Any) -> object:
     """All of some settings that decides what a filter answers."""
     if not seccomp:
         return None

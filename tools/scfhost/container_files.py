@@ -20,6 +20,7 @@ from scftools.base.values import Any, Pattern, dataclass, replace
 from scftools.model import profiles
 from scftools.forms import engines
 from . import configurations, containers, owned_files
+from .configurations import part
 from .machine import Process, Snapshot, inherited
 from .owned_files import Absent, UnreadableFile
 from .ptrace import Kernel, ticks_at_start
@@ -92,8 +93,7 @@ class ContainerDescription:
 
 def _text(value: Any, *names: str) -> str | None:
     """The first of some members of an object that is a text with a letter."""
-    members = (value.get(name) for name in names) if isinstance(value, dict) else ()
-    return next((member for member in members if isinstance(member, str) and member), None)
+    return next(filter(None, (part(value, name, str) for name in names)), None)
 
 
 def _is_of_user(kernel: Kernel, process: int, user: int) -> bool:
@@ -128,8 +128,8 @@ class Reader:
         except (UnreadableFile, ValueError, RecursionError):
             return None
 
-    def state_in(self, folder: str) -> ContainerDescription | None:
-        """The container of a runtime's folder. Raises UnreadableFile if a file is there that isn't the runtime's."""
+    def state_in(self, folder: str) -> tuple[ContainerDescription, Any] | None:
+        """The container of a runtime's folder, and its state.json; raises UnreadableFile of what is no runtime's."""
         for runtime, name in configurations.STATES.items():
             path = os.path.join(folder, name)
             try:
@@ -141,12 +141,11 @@ class Reader:
             if not isinstance(value, dict):
                 raise UnreadableFile(f"'{path}' isn't an object")
             if runtime == "runc":
-                first, started, groups = (value.get(member) for member in (
-                    "init_process_pid", "init_process_start", "cgroup_paths"))
-                groups = groups.values() if isinstance(groups, dict) else ()
-                labels = value["config"].get("labels") if isinstance(value.get("config"), dict) else None
-                texts = (label for label in (labels if isinstance(labels, list) else ()) if isinstance(label, str))
-                bundle = next((text.removeprefix("bundle=") for text in texts if text.startswith("bundle=")), None)
+                first, started = value.get("init_process_pid"), value.get("init_process_start")
+                groups = part(value, "cgroup_paths", dict).values()
+                labels = part(part(value, "config", dict), "labels", list)
+                bundles = (label for label in labels if isinstance(label, str) and label.startswith("bundle="))
+                bundle = next(bundles, "").removeprefix("bundle=")
             else:
                 first, started, bundle = value.get("pid"), value.get("process-start-time"), _text(value, "bundle")
                 groups = [value.get("cgroup-path")]
@@ -154,25 +153,25 @@ class Reader:
                           if isinstance(group, str) and group.strip("/"))
             config = os.path.join(bundle, "config.json") if bundle and bundle.startswith("/") else ""
             return ContainerDescription(os.path.basename(folder), runtime, runtime, first, config, folder=folder,
-                                        groups=paths, started=started)
+                                        groups=paths, started=started), value if runtime == "runc" else None
         return None
 
-    def of_engine(self, folder: str) -> ContainerDescription | None:
+    def of_engine(self, folder: str) -> tuple[ContainerDescription, Any] | None:
         """The container of a bundle of containerd's, of which only an engine's own files are known."""
         try:
             first = int(self.read(os.path.join(folder, "init.pid"), MOST_BYTES)[:12])
         except Absent:
             return None
         return ContainerDescription(os.path.basename(folder), "containerd", None, first,
-                                    os.path.join(folder, "config.json"), folder=folder)
+                                    os.path.join(folder, "config.json"), folder=folder), None
 
-    def add(self, read: Callable[[str], ContainerDescription | None], folder: str) -> None:
+    def add(self, read: Callable[[str], tuple[ContainerDescription, Any] | None], folder: str) -> None:
         """Sends what is read of a folder; whatever is raised meanwhile concerns no other container."""
         try:
-            container = read(folder)
-            if container is None or not _number(container.first):
+            found = read(folder)
+            if found is None or not _number(found[0].first):
                 return
-            container = self.with_config(container)
+            container = self.with_config(*found)
             if container.seccomp not in self.settings:
                 self.settings[container.seccomp] = len(self.settings) - 1
                 self.send({"settings": container.seccomp})
@@ -196,15 +195,15 @@ class Reader:
         if not is_all:
             self.send({"left_out": f"all but {MOST_OF_A_USER} of the folders of containers in {folder}"})
 
-    def with_config(self, container: ContainerDescription) -> ContainerDescription:
+    def with_config(self, container: ContainerDescription, state: Any) -> ContainerDescription:
         """The container with what its config.json says, as it was started, or with the reason why that isn't known."""
         if not container.config:
             return replace(container, why="its runtime's files name no bundle")
         try:
             configuration = engines.parse_json(self.read(container.config, MOST_BYTES))
-            container = self.with_engine(container, configuration)
-            container, configuration = self.as_started(container, configuration)
-            seccomp = configurations.seccomp_in(configuration, container.config)
+            started = configurations.as_started(configuration, state)
+            container = replace(self.with_engine(container, configuration), has_changed=started is not configuration)
+            seccomp = configurations.seccomp_in(started, container.config)
             return replace(container, seccomp=None if seccomp is None else json.dumps(seccomp))
         except (UnreadableFile, configurations.ContainerError) as why:
             return replace(container, why=str(why))
@@ -212,20 +211,6 @@ class Reader:
             return replace(container, why=f"'{container.config}': {why}")
         except Exception as error:  # pylint: disable=broad-exception-caught
             return replace(container, why=f"'{container.config}' can't be read: {type(error).__name__}")
-
-    def as_started(self, container: ContainerDescription, configuration: Any) -> tuple[ContainerDescription, Any]:
-        """A container and its configuration, with the seccomp settings that runc started it with, if its config.json
-        has others by now."""
-        linux = configuration.get("linux") or {} if isinstance(configuration, dict) else {}
-        try:
-            state = self.object_in(os.path.join(container.folder, configurations.STATES["runc"]))
-            started = configurations.started_seccomp(state)
-            if container.runtime != "runc" or \
-                    configurations.comparable(started) == configurations.comparable(linux.get("seccomp")):
-                return container, configuration
-        except (LookupError, TypeError, AttributeError):
-            return container, configuration
-        return replace(container, has_changed=True), {**configuration, "linux": {**linux, "seccomp": started}}
 
     def with_engine(self, container: ContainerDescription, configuration: Any) -> ContainerDescription:
         """The container with the name, image and pod that its engine gives it."""
@@ -242,7 +227,7 @@ class Reader:
             engine = "Docker"
             value = self.object_in(os.path.join(DOCKER_CONTAINERS, container.identifier, "config.v2.json"))
             name = (_text(value, "Name") or "").removeprefix("/") or None
-            image = _text(value.get("Config") if isinstance(value, dict) else None, "Image")
+            image = _text(part(value, "Config", dict), "Image")
         elif task:
             engine = "containerd"
         pods = ((_text(annotations, space) or "", _text(annotations, pod)) for space, pod in POD_ANNOTATIONS)
@@ -256,13 +241,12 @@ class Reader:
             self.stored[folder] = {entry["id"]: entry for entry in (listed if isinstance(listed, list) else ())
                                    if _text(entry, "id")}
         entry = self.stored[folder].get(identifier, {})
-        names = entry.get("names")
         try:
             metadata = json.loads(entry.get("metadata") or "null")
         except (ValueError, TypeError, RecursionError):
             metadata = None
-        return (names[0] if isinstance(names, list) and names and isinstance(names[0], str) else None,
-                _text(metadata, "image-name"))
+        names = part(entry, "names", list)
+        return names[0] if names and isinstance(names[0], str) else None, _text(metadata, "image-name")
 
 
 def _number(value: Any) -> int | None:
