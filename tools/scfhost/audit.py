@@ -3,24 +3,32 @@ whether its processes are confined as configured.
 
 The expected profile of a container is that of its config.json as its runtime applies it, that of a unit is what its
 settings state, and of other programs nothing is expected. For all rows of root's, one after another, and for each user,
-one child copies filters and another one judges them (`child`), within some seconds: root's first.
+one child copies filters and another one, with no rights, judges them (`child`), within some seconds: root's first.
 """
 from __future__ import annotations
 
+import json
+import os
 import time
 from collections.abc import Iterable, Iterator, Sequence
+from itertools import islice
 
-from scftools.base import child
-from scftools.model import tables
-from scftools.model.architectures import JUDGED
+from scftools.base import child, output, program
+from scftools.base.values import Any, replace
+from scftools.model import architectures, tables
+from scftools.model.bundles import stack_bundle
+from scftools.model.profiles import not_compared_of
+from scftools.ask import client, verdicts
+from scftools.ask.verdicts import NO_LESS, NO_MORE, OTHERWISE, SAME, Verdict
 from scftools.forms.filters import Stack
+from scftools.report import compare_output, surfaces
+from scftools.report.compare import Pair
 from scftools.report.pages import ShownSurface
-from . import hold, machine, machine_pass
-from .audit_judge import Judges, Task
-from .audit_rows import (
-    BY_CONFIGURATION, NOT_KNOWN, UNCONFINED_THOUGH, Audit, AuditRow, RowPart, StackJudgement)
+from . import hold, machine, machine_pass, verify
+from .audit_rows import (AS_CONFIGURED, AUDIT_VERDICTS, BY_CONFIGURATION, NOT_KNOWN, STRICTER, UNCONFINED_THOUGH,
+                         WEAKER, Audit, AuditRow, Expectation, RowPart, StackJudgement)
 from .container_files import described_containers
-from .expectations import Expectations, Options, RowMaker
+from .expectations import Expectations, Options, RowMaker, of_settings
 from .processes import Kernel
 from .ptrace import ticks_at_start
 
@@ -28,6 +36,217 @@ from .ptrace import ticks_at_start
 TO_CONFINE = 0.5
 # How long all rows of root may take, all users' files, and all users' rows.
 SECONDS_OF_ROOT, SECONDS_OF_FILES, SECONDS_OF_USERS = 60.0, 10.0, 20.0
+# Of several verdicts on the filters of one stack the first of these is that on all of them.
+WORST_FIRST = (WEAKER, NOT_KNOWN, STRICTER, OTHERWISE, AS_CONFIGURED)
+# The most verdicts that are kept for the next audit, and the most lines that explain one.
+MOST_KEPT, MOST_LINES = 5000, 100
+# How much of a child's time scf may take with all steps.
+SHARE_OF_SCF = 0.6
+# What a child answers: of a row the profile that is expected, or why that isn't known; of a stack of a row the verdict;
+# and what a stack allows.
+JUDGEMENT = {"verdict": str, "why": (str, None), "shown": [str], "not_compared": [str], "lines": [str],
+             "architecture": (str, None), "is_of_baseline": bool, "digest": str}
+ANSWER = ({"row": int, "digest": (str, None), "why": (str, None)}, {"row": int, "stack": int, "judgement": JUDGEMENT},
+          {"stack": int, "whole": [str], "rows": [{"names": [str], "said": str, "details": [str]}]})
+
+
+def _begin() -> None:
+    """What a child that judges does first."""
+    path = client.built_program()
+    if path is not None:
+        # (it may be where only root can look for it)
+        file = os.open(path, os.O_PATH)
+        os.set_inheritable(file, True)
+        client.PROGRAMS = (f"/proc/self/fd/{file}",)
+    child.become(child.NOBODY)
+
+
+class Task:
+    """A row of root's, or all rows of a user's; what stacks allow is kept by the SHA-256 of their bundles."""
+
+    def __init__(self, user: int | None, rows: Sequence[AuditRow], copies: machine_pass.Copies,
+                 surfaces_of: dict[str, ShownSurface]) -> None:
+        self.user, self.rows, self.copies, self.surfaces_of = user, rows, copies, surfaces_of
+        self.keys = [row.expected.key for row in rows]
+
+    def begin(self) -> None:
+        """Before the stacks are judged that were copied."""
+        self.digests: dict[int, str] = {}
+        self.stacks = list(self.copies.stacks.values())
+        filters = {data: output.sha256(data) for stack in self.stacks for data in stack.filters}
+        self.stack_keys = [output.sha256("".join(map(filters.get, stack.filters)).encode()) for stack in self.stacks]
+        # of each row the threads of its processes by the indexes of their stacks
+        self.threads: list[dict[int, dict[int, list[int]]]] = [{} for _ in self.rows]
+        of_row = {process.number: at for at, row in enumerate(self.rows) for process in row.processes}
+        for index, stack in enumerate(self.stacks):
+            for number in sorted(stack.threads):
+                self.threads[of_row[number]].setdefault(index, {})[number] = stack.threads[number]
+        for row, its in zip(self.rows, self.threads):
+            row.judged = {index: row.judged.get(index) for index in its if self.stacks[index].filters}
+
+    def receive(self, value: Any) -> None:
+        value = child.checked(value, ANSWER)
+        if "whole" in value:
+            self.surfaces_of.setdefault(self.digests[value["stack"]], ShownSurface.of_json(value))
+        elif "stack" not in value:
+            row = self.rows[value["row"]]
+            row.expected = replace(row.expected, dropped=value["digest"], why=value["why"])
+        elif self.rows[value["row"]].judged[value["stack"]] is None:
+            judged = value["judgement"]
+            if judged["verdict"] not in AUDIT_VERDICTS:
+                raise ValueError(judged["verdict"])
+            shown = verdicts.report("\n".join(judged["shown"])).verdict if judged["shown"] else None
+            self.digests[value["stack"]] = judged["digest"]
+            self.rows[value["row"]].judged[value["stack"]] = StackJudgement(**{
+                **judged, "shown": shown, "lines": tuple(judged["lines"]),
+                "not_compared": tuple(judged["not_compared"])})
+
+    @property
+    def is_over(self) -> bool:
+        return not any(row.waits for row in self.rows)
+
+
+class Judges:
+    """Has children judge rows. Verdicts on root's rows are kept, and none of a user's."""
+
+    def __init__(self, options: Options) -> None:
+        self.options = options
+        # the verdicts, by what is expected and stacks; the profiles that containers' settings mean, by their SHA-256;
+        # and what stacks allow
+        self.known: dict[tuple[str, str], StackJudgement] = {}
+        self.resolved: dict[str, str] = {}
+        self.surfaces: dict[str, ShownSurface] = {}
+        # what settings mean, only in a child
+        self.meanings: dict[str, Expectation] = {}
+
+    def judge(self, tasks: Sequence[Task], budget: child.Budget) -> dict[int, str]:
+        """Adds the verdicts that rows wait for, and what stacks allow; says of which some still wait, and why."""
+        lacking = [at for at, task in enumerate(tasks) if self.lacks(task)]
+        lost = child.ask_each(
+            [lambda send, seconds, task=task: self.send_all(task, send, seconds) for task in tasks],
+            budget.shares(lacking), lambda at, value: tasks[at].receive(value), _begin)
+        if len(self.known) > MOST_KEPT:
+            for kept in (self.known, self.resolved, self.surfaces):
+                kept.clear()
+        for task in tasks:
+            self.keep(task)
+        return {at: why for at, why in lost.items() if not tasks[at].is_over}
+
+    def lacks(self, of: Task) -> bool:
+        """Whether something is to be found out that isn't known from rows of root's."""
+        of.begin()
+        for row, key in zip(of.rows, of.keys):
+            if row.expected.is_unresolved and key in self.resolved:
+                row.expected = replace(row.expected, dropped=self.resolved[key])
+            row.judged = {number: judged or self.known.get((key, of.stack_keys[number]))
+                          for number, judged in row.judged.items()}
+            of.digests.update((number, judged.digest) for number, judged in row.judged.items() if judged is not None)
+        of.surfaces_of.update((digest, self.surfaces[digest]) for digest in of.digests.values()
+                              if digest in self.surfaces)
+        return not of.is_over or self.options.has_surfaces and not of.surfaces_of.keys() >= {*of.digests.values()}
+
+    def keep(self, of: Task) -> None:
+        """Keeps what was found out of a row of root's."""
+        self.surfaces.update(of.surfaces_of if of.user is None else {})
+        for row, key in zip(of.rows, of.keys) if of.user is None else ():
+            if row.expected.dropped is not None:
+                self.resolved[key] = row.expected.dropped
+            self.known.update(((key, of.stack_keys[number]), judged) for number, judged in row.judged.items()
+                              if judged is not None and judged.verdict != NOT_KNOWN)
+
+    def send_all(self, of: Task, send: child.Send, seconds: float) -> None:
+        """Judges, in a child, what waits, and sends that."""
+        client.begin_limits(seconds * SHARE_OF_SCF, False)
+        digests = {}
+        for at, (row, key) in enumerate(zip(of.rows, of.keys)):
+            expected = row.expected
+            if row.waits and expected.settings is not None:
+                if key not in self.meanings:
+                    self.meanings[key] = of_settings(json.loads(expected.settings), expected.runtime, expected.source,
+                                                     self.options)
+                expected = self.meanings[key]
+                send({"row": at, "digest": expected.digest, "why": expected.why})
+            for number, judgement in row.judged.items():
+                if judgement is None:
+                    stack, its_key = of.stacks[number], (key, of.stack_keys[number])
+                    if its_key not in self.known:
+                        self.known[its_key] = replace(self.judgement(stack, expected),
+                                                      digest=output.sha256(stack_bundle(stack.filters)))
+                    judgement = self.known[its_key]
+                    shown = [] if judgement.shown is None else verdicts.Report.of(judgement.shown).lines
+                    send({"row": at, "stack": number, "judgement": {
+                        **{name: getattr(judgement, name) for name in JUDGEMENT}, "shown": shown}})
+                digests[number] = judgement.digest
+        for number, digest in digests.items() if self.options.has_surfaces else ():
+            if digest not in of.surfaces_of:
+                surface = ShownSurface.of(surfaces.surface_of_filters(of.stacks[number].filters, self.options.table))
+                of.surfaces_of[digest] = surface
+                send({"stack": number, **surface.as_json()})
+
+    def judgement(self, stack: Stack, expected: Expectation) -> StackJudgement:
+        """The verdict on a stack with filters; whatever is raised meanwhile, it isn't known."""
+        try:
+            judgement = self.judge_all(stack, expected)
+            if self.options.baseline is None:
+                return judgement
+            least = self.judge_by(stack, self.options.request(self.options.baseline[1], NO_MORE), NO_MORE)
+            is_worse = least.verdict in (WEAKER, NOT_KNOWN) and least.order < judgement.order
+            return replace(least, is_of_baseline=True) if is_worse else judgement
+        except program.ToolError as why:
+            return StackJudgement(NOT_KNOWN, str(why))
+        except Exception as error:  # pylint: disable=broad-exception-caught
+            return StackJudgement(NOT_KNOWN, f"it can't be compared: {type(error).__name__}")
+
+    def judge_all(self, stack: Stack, expected: Expectation) -> StackJudgement:
+        """The verdict beside all that is expected."""
+        if expected.why is not None:
+            return StackJudgement(NOT_KNOWN, f"what is configured isn't known: {expected.why}")
+        filters = tuple(data for data in stack.filters if data != expected.beside)
+        stack = replace(stack, filters=filters) if filters else stack
+        judgements = (self.judge_by(stack, asked) for asked in (expected.asked.parts if expected.asked else (None,)))
+        worst = min(judgements, key=lambda judgement: WORST_FIRST.index(judgement.verdict))
+        if expected.doubt is None or worst.verdict in (NOT_KNOWN, AS_CONFIGURED):
+            return worst
+        return replace(worst, verdict=NOT_KNOWN, why=f"it is {worst.verdict}, but {expected.doubt}")
+
+    def judge_by(self, stack: Stack, asked: verify.Request | None, relation: str = SAME) -> StackJudgement:
+        """The verdict beside a profile, or where nothing is configured."""
+        asked_of = asked or verify.nothing_request(self.options.table)
+        comparison = asked_of.comparison(stack.named, relation)
+        # (one of which nothing is shown needs no second look)
+        verdict = comparison.known_verdict(comparison.scope, relation) if asked is None else None
+        if verdict is None:
+            comparison, _, report = comparison.run_by_stub()
+            verdict = report.verdict
+            if verdict is None:
+                return StackJudgement(NOT_KNOWN, f"scf says: {report.lines[0] if report.lines else 'nothing'}")
+        judgement = self._of_verdict(comparison, verdict)
+        if asked is None:
+            # (the call that shows it would be answered by no profile of a user)
+            return replace(judgement, shown=None, lines=())
+        names = comparison.left_out[-1].architectures
+        is_i386 = list(comparison.tables.of) == [architectures.I386]
+        return replace(judgement, not_compared=(*names, *not_compared_of(asked.profile.data)),
+                       architecture="i386" if is_i386 else None)
+
+    def _of_verdict(self, comparison: Pair, verdict: Verdict) -> StackJudgement:
+        """The verdict on what is judged: if some syscalls differ, whether any is more permissive, or any stricter."""
+        if verdict.holds:
+            return StackJudgement(AS_CONFIGURED)
+        for word, relation in ((WEAKER, NO_MORE), (STRICTER, NO_LESS)) if verdict.fails else ():
+            found = verdict if relation == comparison.relation else comparison.verdict(comparison.scope, relation)
+            if found is None or not found.holds:
+                return self._shown(word, found, comparison)
+        return self._shown(OTHERWISE, verdict, comparison)
+
+    def _shown(self, word: str, shown: Verdict | None, comparison: Pair) -> StackJudgement:
+        """The verdict with this word that scf's shows; it isn't known if that isn't."""
+        if shown is None or not shown.fails:
+            at = f" at {shown.at}" if shown is not None and shown.at is not None else ""
+            return StackJudgement(NOT_KNOWN, f"scf says: {'nothing' if shown is None else shown.word}{at}")
+        has_lines = self.options.has_surfaces and shown.call is not None
+        lines = compare_output.difference_lines(comparison, shown) if has_lines else ()
+        return StackJudgement(word, shown=shown, lines=tuple(islice(lines, MOST_LINES)))
 
 
 class Assessor:
@@ -137,7 +356,7 @@ class Assessor:
 def audit_machine(options: Options, judges: Judges) -> Audit:
     """Audits the machine; `judges` keeps its results for the next time."""
     began, now, kernel = time.monotonic(), time.time(), Kernel()
-    for name in JUDGED:
+    for name in architectures.JUDGED:
         # (who judges may not be able to read them)
         tables.architecture_table(name)
     why = hold.why_no_filters(kernel)

@@ -47,7 +47,7 @@ from scftools.model import tables
 from scftools.ask import verdicts
 from scftools.cli import words
 from scftools.forms import profile_inputs
-from .. import audit, audit_judge, audit_output, expectations, processes
+from .. import audit, audit_output, expectations, processes
 
 BASELINE = "no-more:"
 
@@ -109,7 +109,7 @@ def main():
                                    given.html is not None)
     earlier, before = earlier_in(given.since), None
     options.check()
-    judges = audit_judge.Judges(options)
+    judges = audit.Judges(options)
     while True:
         report = processes.read_or_end(lambda: audit.audit_machine(options, judges), is_json=given.json)
         if given.prometheus is not None:

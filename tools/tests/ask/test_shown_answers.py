@@ -15,7 +15,7 @@ from scftools.ask.client import Run
 from scftools.forms.filters import Filter, Stack
 from scftools.forms.profile_inputs import ProfileInput
 from scftools.report import compare
-from scfhost import audit_judge, audit_rows
+from scfhost import audit, audit_rows
 from scfhost.expectations import Options
 from scfhost.verify import Request
 
@@ -102,7 +102,7 @@ class Modules(Case):
         text = (b"differs\ncall nr 1 arch 0xc000003e ip 0x0 args 0x0 0x0 0x0 0x0 0x0 0x0\nfilter ALLOW 0\n"
                 b"profile ALLOW 0\n")
         table = tables.read_table(None)
-        run, judge = client.run_scf, audit_judge.Judges(Options(table))
+        run, judge = client.run_scf, audit.Judges(Options(table))
         with mock.patch.object(client, "run_scf", lambda words, *more_words, **more: Run(1, text)
                                if words[0] == "compare" else run(words, *more_words, **more)):
             asked = Request(ProfileInput(profile_of("read", "write")), table)

@@ -16,14 +16,14 @@ import importlib, json, os, resource, sys
 sys.path.insert(0, sys.argv[1])
 from scftools.base import program
 from scftools.model import tables
-from scfhost import audit, audit_judge, audit_output, expectations, processes
+from scfhost import audit, audit_output, expectations, processes
 program.is_tool = True
 for place, value in json.loads(sys.argv[2]).items():
     module, _, name = place.rpartition(".")
     setattr(importlib.import_module(module), name, value)
 options = expectations.Options(tables.read_table(None), has_surfaces=True, allows_unconfined=True)
 options.check()
-judges = audit_judge.Judges(options)
+judges = audit.Judges(options)
 for _ in range(2):
     began = sum(os.times()[:4])
     report = audit.audit_machine(options, judges)

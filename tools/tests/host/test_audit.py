@@ -18,7 +18,7 @@ from scftools.base import output
 from scftools.base.values import replace
 from scftools.model import tables
 from scftools.model.profiles import not_compared_of
-from scfhost import audit, audit_judge, audit_output, audit_rows, container_files, machine, sandbox_programs
+from scfhost import audit, audit_output, audit_rows, container_files, machine, machine_pass, sandbox_programs
 from scftools.forms.filters import Stack
 from scfhost.expectations import Expectations, Options, RowMaker
 
@@ -830,7 +830,7 @@ class Snaps(Case):
 
     def test_verdicts(self):
         """The filter of all snaps makes nothing stricter than configured; a filter that allows more is weaker."""
-        expected, judge = self.expectations.of_snap("snap.web.run"), audit_judge.Judges(self.expectations.options)
+        expected, judge = self.expectations.of_snap("snap.web.run"), audit.Judges(self.expectations.options)
         compiled = self.compile(self.file("p.json", expected.asked.profile.data))[1]
         for filters, verdict in (((compiled, self.OF_ALL), "as configured"), ((compiled,), "as configured"),
                                  ((self.OF_ALL,), "weaker"), ((gate(ret(ALLOW)), self.OF_ALL), "weaker"),
@@ -977,14 +977,14 @@ class Kept(Case):
 
     def setUp(self):
         super().setUp()
-        self.judges, self.asked = audit_judge.Judges(Options(tables.read_table(None))), []
-        self.patched(audit_judge.child, "ask_each", self.ask_each)
-        self.copies = audit_judge.Copies(processes.Kernel(), (), False)
+        self.judges, self.asked = audit.Judges(Options(tables.read_table(None))), []
+        self.patched(audit.child, "ask_each", self.ask_each)
+        self.copies = machine_pass.Copies(processes.Kernel(), (), False)
         self.copies.stacks = {None: Stack((filter_of([0]),), False, {7: [7]})}
 
     def task(self, is_root):
         row = audit_rows.AuditRow(audit_rows.UNIT, "x", [mock.Mock(number=7)], audit_rows.Expectation())
-        return audit_judge.Task(None if is_root else 12345, [row], self.copies, {})
+        return audit.Task(None if is_root else 12345, [row], self.copies, {})
 
     def ask_each(self, works, turns, receive, _):
         for at, _ in turns:
@@ -1000,7 +1000,7 @@ class Kept(Case):
     def judged(self, verdict, is_root):
         self.verdict = verdict
         task = self.task(is_root)
-        self.assertEqual(self.judges.judge([task], audit_judge.child.Budget(1.0)), {})
+        self.assertEqual(self.judges.judge([task], audit.child.Budget(1.0)), {})
         return task.rows[0].judged[0].verdict
 
     def test_whose_they_are(self):
@@ -1025,7 +1025,7 @@ class Kept(Case):
     def test_answers_of_another_form(self):
         task, self.verdict = self.task(True), "fine"
         with self.assertRaises(ValueError):
-            self.judges.judge([task], audit_judge.child.Budget(1.0))
+            self.judges.judge([task], audit.child.Budget(1.0))
         self.assertEqual((task.rows[0].judged, self.judges.known), ({0: None}, {}))
 
 
