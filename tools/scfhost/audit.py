@@ -42,8 +42,7 @@ WORST_FIRST = (WEAKER, NOT_KNOWN, STRICTER, OTHERWISE, AS_CONFIGURED)
 MOST_KEPT, MOST_LINES = 5000, 100
 # How much of a child's time scf may take with all steps.
 SHARE_OF_SCF = 0.6
-# What a child answers: of a row the profile that is expected, or why that isn't known; of a stack of a row the verdict;
-# and what a stack allows.
+# What a child answers: a row's expected profile, or why it isn't known; the verdict on a row's stack; what one allows.
 JUDGEMENT = {"verdict": str, "why": (str, None), "shown": [str], "not_compared": [str], "lines": [str],
              "architecture": (str, None), "is_of_baseline": bool, "digest": str}
 ANSWER = ({"row": int, "digest": (str, None), "why": (str, None)}, {"row": int, "stack": int, "judgement": JUDGEMENT},
@@ -111,8 +110,7 @@ class Judges:
 
     def __init__(self, options: Options) -> None:
         self.options = options
-        # the verdicts, by what is expected and stacks; the profiles that containers' settings mean, by their SHA-256;
-        # and what stacks allow
+        # the verdicts, by what is expected and stacks; the SHA-256 of what settings mean; and what stacks allow
         self.known: dict[tuple[str, str], StackJudgement] = {}
         self.resolved: dict[str, str] = {}
         self.surfaces: dict[str, ShownSurface] = {}

@@ -94,8 +94,7 @@ def row_lines(row: AuditRow, table: Table, row_of_reason: dict[tuple[int | None,
 
 
 def summary(audit: Audit, unlisted: int = 0) -> Iterator[str]:
-    """The last lines: how many rows have each verdict, and how many programs aren't listed; what there is, and what
-    wasn't looked at."""
+    """The last lines: how many rows have each verdict, or aren't listed; what there is, and what wasn't looked at."""
     for kind in ROW_KINDS:
         counts = [(verdict, audit.counts[kind, verdict]) for verdict in AUDIT_VERDICTS]
         text = ", ".join(f"{verdict} {count}" for verdict, count in counts if count) or "none"
@@ -111,8 +110,7 @@ def summary(audit: Audit, unlisted: int = 0) -> Iterator[str]:
 
 
 def audit_lines(audit: Audit, table: Table, lists_all: bool = True, earlier: Earlier | None = None) -> Iterator[str]:
-    """The text output: the rows, without the programs that are only counted unless `lists_all`; the changes since an
-    earlier audit; and the summary."""
+    """The rows, without the programs that are only counted unless `lists_all`; the changes; and the summary."""
     listed = [row for row in audit.rows if lists_all or not row.is_only_counted]
     row_of_reason: dict[tuple[int | None, str], str] = {}
     for row in listed:
@@ -164,8 +162,7 @@ class Earlier:
 
 
 def changes(earlier: Earlier, audit: Audit, lists_all: bool = True) -> Iterator[dict[str, object]]:
-    """The changes since an earlier audit: rows that are new, gone, or have another verdict; without those of programs
-    that are only counted unless `lists_all`."""
+    """Rows that are new, gone, or have another verdict; without programs that are only counted unless `lists_all`."""
     now = Earlier.of(audit)
     for key in {**now.rows, **earlier.rows}:
         verdict, was = (rows[key].verdict if key in rows else None for rows in (now.rows, earlier.rows))

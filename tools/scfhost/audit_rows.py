@@ -26,8 +26,7 @@ CONTAINER, UNIT, OTHER_PROGRAM = ROW_KINDS = ("container", "unit", "program")
 
 
 def is_only_counted(kind: str, is_stated: bool, verdict: str) -> bool:
-    """Whether a row is a program for which nothing is configured, and that doesn't bear on the status: a count says
-    enough of it."""
+    """Whether a row is a program without a configuration that doesn't bear on the status: a count says enough of it."""
     return kind == OTHER_PROGRAM and not is_stated and verdict in WITHOUT_CONSEQUENCE
 
 
@@ -119,8 +118,7 @@ class AuditRow:
     """A container, a unit or a program."""
 
     kind: str
-    # the container's identifier, with where its description stands if another one has it too; the unit's name; the
-    # path of the executable
+    # the container's identifier, with the place of its description if another one has it; a unit's name; a path
     key: str
     processes: list[Process]
     expected: Expectation

@@ -19,8 +19,7 @@ CONFIG = "config.json"
 IDENTIFIER, SHORT = Pattern("(?<![0-9a-f])[0-9a-f]{64}(?![0-9a-f])"), 12
 # The file that a runtime keeps of a container of root's, in a folder with its identifier below /run/RUNTIME.
 STATES = {"runc": "state.json", "crun": "status"}
-# The numbers of actions and operators, and libcontainer's names of architectures where they aren't OCI's in small
-# letters.
+# The numbers of actions and operators, and libcontainer's names of architectures that aren't OCI's in small letters.
 RUNC_ACTIONS = {number: f"SCMP_ACT_{name}" for number, name in enumerate(
     "KILL ERRNO TRAP ALLOW TRACE LOG NOTIFY KILL_THREAD KILL_PROCESS".split(), 1)}
 RUNC_OPERATORS = {number: f"SCMP_CMP_{name}" for number, name in enumerate("EQ NE GT GE LT LE MASKED_EQ".split(), 1)}
@@ -88,8 +87,7 @@ def identifiers_of(kernel: Kernel, process: int) -> list[str]:
 
 
 def other_runtime(identifiers: Sequence[str], runtime: str | None) -> str | None:
-    """The line on the runtime of a container with one of these identifiers, where its own files show that it is another
-    one than was said."""
+    """The line on the runtime of a container with one of these identifiers, if its files show another than was said."""
     runtime_program = runtimes.RUNTIMES[runtime].program if runtime is not None else None
     for name, file in STATES.items():
         folders = (f"/run/{name}/{identifier}" for identifier in identifiers)

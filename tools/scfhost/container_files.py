@@ -31,8 +31,7 @@ ROOTS = ("/run/runc", "/run/crun", "/run/containerd/runc/*", "/run/docker/runtim
 OF_USERS, ROOTS_OF_USERS = "/run/user", ("runc", "crun")
 # systemd's slices of users (systemd.special(7)), in which these may make groups.
 SLICE_OF_A_USER = Pattern(rb"/user\.slice/user-[0-9]+\.slice/")
-# Bundles of containerd, also one that k3s or Docker starts itself, with a namespace for each client; and of the storage
-# of podman and CRI-O.
+# Bundles of containerd, also one that k3s or Docker starts, by clients; and of the storage of podman and CRI-O.
 CONTAINERD = ("/run/containerd", "/run/k3s/containerd", "/run/docker/containerd/daemon")
 TASK_BUNDLE = Pattern(r"/.*/io\.containerd\.runtime\.v2\.task/([^/]+)/[^/]+/?")
 STORAGE_BUNDLE = Pattern(r"(.*-containers)/([0-9a-f]{64})/userdata/?")
@@ -111,8 +110,7 @@ ANSWER = (CONTAINER, {"settings": str}, {"left_out": str}, {"note": str}, {"user
 
 
 class Reader:
-    """Reads the files of containers, in a child, and sends what they say: root's own files, or all that a user may read
-    who is this process's."""
+    """Reads files of containers in a child, and sends what they say: root's own, or all that its user may read."""
 
     def __init__(self, send: child.Send, is_root: bool) -> None:
         self.send, self.read = send, owned_files.read_own if is_root else owned_files.read_file
@@ -300,8 +298,7 @@ def _send_users(send: child.Send, user: int, folders: Sequence[str]) -> None:
 
 def described_containers(kernel: Kernel, snapshot: Snapshot, more_roots: Sequence[str],
                          budget: child.Budget) -> list[ContainerDescription]:
-    """The containers that run, each once, those first that root's own files describe; `more_roots` are further folders
-    in which runtimes keep theirs."""
+    """The containers that run, each once, those of root's own files first; `more_roots` are further folders."""
     by_first: dict[int, ContainerDescription] = {}
     folders_of_users: dict[int, list[str]] = {}
 
@@ -357,9 +354,8 @@ def _named_group(process: Process) -> containers.Group | None:
 
 def place_of(kernel: Kernel, container: ContainerDescription, process: Process) -> Place:
     """Where the processes of a container are, given its first one: in the control group that its runtime's file states,
-    if the process is in it or below. A group that has this tool or the machine's first process in it isn't the
-    container's own: the container was started without one. What a user's file states isn't believed: it could be a
-    group of others."""
+    if the process is in it or below. One that has this tool or the machine's first process in it isn't its own: it was
+    started without one. What a user's file states isn't believed: it could be a group of others."""
     paths: dict[str, bytes] = {}
     for hierarchy in (*containers.HIERARCHIES, *process.groups) if container.user is None else ():
         path = process.groups.get(hierarchy, b"/")

@@ -95,8 +95,7 @@ def groups_of(kernel: Kernel, process: int) -> dict[str, bytes]:
 
 
 def known_groups(roots: Sequence[bytes], path: bytes) -> Iterator[bytes]:
-    """The groups at or above a process's that are known to be a container's, given the roots of the mounts of control
-    groups that the process sees."""
+    """The groups at or above a process's that are known to be a container's, given the roots that it sees mounted."""
     for root in roots:
         if root != b"/" and is_within(path, root):
             yield root
@@ -111,8 +110,7 @@ def known_groups(roots: Sequence[bytes], path: bytes) -> Iterator[bytes]:
 def group_of(kernel: Kernel, process: int) -> Group | None:
     """The control group of a process's container, or None if the process is in the root group.
 
-    In a cgroup namespace the kernel shows its root as `/`, whichever group that is, and groups outside as `/..`, so
-    that the processes of such a group are unknown.
+    In a cgroup namespace the kernel shows its root as `/`, whichever group that is, and groups outside as `/..`.
     """
     groups, roots = groups_of(kernel, process), kernel.mounted_groups(process)
     inside = [name for name in HIERARCHIES if groups.get(name, b"/") != b"/"]
@@ -130,8 +128,7 @@ def group_of(kernel: Kernel, process: int) -> Group | None:
 
 
 def container_of(kernel: Kernel, process: int) -> Container:
-    """The processes in the group of a process's container and in those below it; if that is the root, those in its PID
-    namespace and in those within it."""
+    """The processes in or below the group of a process's container; if that is the root, those in its PID namespace."""
     group = group_of(kernel, process)
     space, tools_space = kernel.namespaces_of(process)[:1], kernel.namespaces_of(os.getpid())[:1]
     has_space = bool(space) and space != tools_space

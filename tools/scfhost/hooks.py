@@ -34,8 +34,7 @@ from .ptrace import has_ended
 UNSTATED = "unstated"
 # The container's own program isn't executed yet; runc calls a poststart hook so.
 CREATED = "created"
-# How often the threads of a process without a filter are read again, in seconds: a runtime may call its hooks
-# before the filter is loaded.
+# How often threads without a filter are read again, in seconds: a runtime may call hooks before it loads the filter.
 READING_PAUSE = 0.02
 # A hook has no environment but the one that is named.
 HOOK_PATH = "PATH=/usr/local/sbin:/usr/local/bin:/usr/sbin:/usr/bin:/sbin:/bin"
@@ -209,8 +208,7 @@ class ContainerProcess:
                 if number != self.container.pid and not has_ended(self.kernel.status_of(number))]
 
     def threads(self) -> dict[int, int]:
-        """The threads of all processes of the container; of the first one, before the container's program is executed,
-        only the thread that will execute it."""
+        """The container's threads; until its program is executed, of the first process only the one that will do so."""
         pid = self.container.pid
         threads = self.kernel.threads_of(pid)
         processes_of = {thread: pid for thread in threads if thread == pid or self.container.status != CREATED}
@@ -219,8 +217,7 @@ class ContainerProcess:
         return processes_of
 
     def confined(self, seconds: float, is_forced: bool) -> Inspection:
-        """The filters of all threads, once each has one, as far as that can be known without stopping it, or the time
-        is up."""
+        """The filters of all threads, once each seems to have one without being stopped, or the time is up."""
         until = time.monotonic() + seconds
         while not self.has_ended() and time.monotonic() < until and any(
                 status.get("Seccomp") == "0" and not has_ended(status)
@@ -242,8 +239,7 @@ class Kill:
 
 @dataclass
 class HookResult:
-    """The finding on a container: a status and a verdict; and the explanation, which may take long to find, as
-    lines and as an object."""
+    """The finding on a container: a status and a verdict; and what explains it, which may take long to find."""
 
     status: int
     verdict: str | None

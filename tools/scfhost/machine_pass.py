@@ -151,8 +151,7 @@ class Copies:
 
 
 def read_each(each: Sequence[Copies], budget: child.Budget) -> tuple[int, dict[int, str]]:
-    """Has a child read the processes that wait, of one after another until there are many bytes: of how many, and by
-    their indexes why some still wait."""
+    """Has a child read what waits, of one after another until there are many bytes: of how many, and why some wait."""
     count = 0
 
     def turns() -> Iterator[tuple[int, float]]:

@@ -1,5 +1,4 @@
-"""The filters of processes compared with a profile, or with filters that were saved: a verdict for each distinct stack,
-and the threads that have it."""
+"""The filters of processes compared with a profile or with saved filters: a verdict for each distinct stack."""
 from __future__ import annotations
 
 from collections.abc import Iterator, Sequence
@@ -18,11 +17,9 @@ from .configurations import ContainerError
 
 # What is compared with if nothing is configured: every syscall is allowed.
 ALLOWS_ALL = b'{"defaultAction": "SCMP_ACT_ALLOW"}'
-# The faults of a profile that are left to the runtimes: they accept two answers to a syscall, and several conditions on
-# an argument.
+# The faults that are left to runtimes, which accept two answers to a syscall, and two conditions on one argument.
 LEFT_TO_RUNTIMES = ("Conflict", "RepeatedIndex")
-# The verdict on threads without a filter, by whether a container's configuration has a profile; None if the profile
-# isn't that of a configuration.
+# The verdict on threads without a filter, by whether a container's configuration has a profile; None without one.
 UNCONFINED = {None: "unconfined", False: "unconfined by configuration", True: "unconfined though configured"}
 
 
@@ -47,8 +44,7 @@ class Block:
 
 @dataclass(frozen=True)
 class Request:
-    """A profile, with a runtime as that is given it, and how each stack is compared with it. Or filters that were
-    saved, in its place."""
+    """How each stack is compared with a profile, as its runtime is given it, or with filters that were saved."""
 
     profile: ProfileInput
     table: tables.Table
@@ -101,15 +97,13 @@ class Request:
 
 
 def nothing_request(*settings: Any, **named: Any) -> Request:
-    """The question where nothing is configured, by the other settings of a request: other ABIs' syscalls are allowed,
-    too."""
+    """The question where nothing is configured, by a request's other settings: other ABIs are allowed, too."""
     return Request(ProfileInput(ALLOWS_ALL), *settings, elsewhere=questions.ABI_NAMES, **named)
 
 
 def request_of(config: dict[str, Any], runtime: str | None, *settings: Any, keeps_first: bool = False,
                **named: Any) -> Request:
-    """The question about a container with this configuration, as its runtime applies it, by the other settings of a
-    request."""
+    """The question about a container's configuration, as its runtime applies it, by a request's other settings."""
     try:
         if runtime is not None:
             profile = runtimes.applied(config, runtime)
@@ -139,8 +133,7 @@ def blocks(inspection: Inspection, request: Request) -> list[Block]:
 
 def verification_lines(made: Sequence[Block], inspection: Inspection, request: Request,
                        is_verbose: bool = False) -> Iterator[str]:
-    """The text output: scf's lines for each block, with --verbose also the skipped names, and then added lines,
-    marked by `# `."""
+    """scf's lines for each block, with --verbose also the skipped names, and then added lines, marked by `# `."""
     is_printed = False
     for at, block in enumerate(made):
         if at:
@@ -160,8 +153,7 @@ def verification_lines(made: Sequence[Block], inspection: Inspection, request: R
 
 def verification_json(made: Sequence[Block], inspection: Inspection, request: Request,
                       container: str | None) -> dict[str, object]:
-    """The object with everything that `verification_lines` prints, and the container: the verdict is that of the
-    worst stack."""
+    """The object with all that `verification_lines` prints, and the container; the worst stack has its verdict."""
     scopes = [block.judged.scope for block in made if block.judged is not None]
     compared = [{"status": block.status, "verdict": block.verdict} if block.judged is None else comparison_json(
         block.judged.comparison, block.judged.first, block.judged.scope, block.status) for block in made]
