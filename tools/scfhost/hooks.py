@@ -249,45 +249,33 @@ class HookResult:
 
 def finding_of(inspection: Inspection, request: verify.Request, process: ContainerProcess) -> HookResult:
     """The result for all distinct stacks. Its text has no line for each name or architecture that was left out."""
-    blocks, others = verify.blocks(inspection, request), containers.others_note(process.kernel, process.members)
-    status, verdict = blocks[0].status, blocks[0].verdict
-    if others is not None and status == program.SUCCESS:
-        status, verdict = program.UNKNOWN, None
+    others = containers.others_note(process.kernel, process.members)
+    found = verify.Verification(inspection, request, others)
     remarks = [*request.remarks, *process.members.remarks, *([others] if others else [])]
-    if status in (program.NEGATIVE, program.TROUBLE) and blocks[0].judged is not None:
+    if found.is_refuted:
         runtime = getattr(request.profile.runtime, "name", None)
         remarks += filter(None, [configurations.other_runtime([process.container.name], runtime)])
 
     def lines() -> list[str]:
-        report_lines = [line for line in verify.verification_lines(blocks, inspection, request)
-                        if line and not line.startswith(verdicts.LEFT_OUT)]
-        return report_lines + [f"# {remark}" for remark in remarks]
+        printed = [line for line in found.lines() if line and not line.startswith(verdicts.LEFT_OUT)]
+        return printed + [f"# {remark}" for remark in remarks]
 
-    def value() -> dict[str, object]:
-        report_value = verify.verification_json(blocks, inspection, request, None)
-        return {**report_value, "status": status, "verdict": verdict, "remarks": remarks}
-
-    return HookResult(status, verdict, lines, value)
+    return HookResult(found.status, found.verdict, lines, lambda: {**found.as_json(None), "remarks": remarks})
 
 
-def plain_finding(status: int, verdict: str | None, line: str) -> HookResult:
-    """A finding of a single line."""
+def plain_finding(line: str, status: int = program.TROUBLE, verdict: str | None = None) -> HookResult:
+    """A finding of a single line; without a verdict that says why there is none."""
     value: dict[str, object] = {"status": status, "scope": verdicts.NATIVE_SCOPE, "verdict": verdict}
     return HookResult(status, verdict, lambda: [line], lambda: value if verdict else {**value, "why": line})
-
-
-def failure(why: str, status: int = program.TROUBLE) -> HookResult:
-    return plain_finding(status, None, why)
 
 
 def unknown(status: int | None, seconds: float) -> HookResult:
     """The finding if a child reports nothing: it ended with a status, or not within so many seconds."""
     if status is None:
-        return failure(f"undecided after {seconds:g} seconds", program.UNKNOWN)
+        return plain_finding(f"undecided after {seconds:g} seconds", program.UNKNOWN)
     if status == program.NOT_BUILT:
-        return failure("scf can't be run", program.NOT_BUILT)
-    how = f"signal {-status}" if status < 0 else f"status {status}"
-    return failure(f"the check ended with {how}")
+        return plain_finding("scf can't be run", program.NOT_BUILT)
+    return plain_finding(f"the check ended with {f'signal {-status}' if status < 0 else f'status {status}'}")
 
 
 class Watchdog:
@@ -357,12 +345,12 @@ class Examination:
         except OSError as error:
             if reported:
                 raise
-            finding = failure(f"no process can be started: {error.strerror}")
+            finding = plain_finding(f"no process can be started: {error.strerror}")
         if not reported:
             self.settle(finding.status)
             return finding
         (status, verdict), *explained = reported
-        late = plain_finding(status, verdict, f"no explanation: it takes longer than {EXPLANATION_SECONDS:g} seconds")
+        late = plain_finding(f"no explanation: it takes longer than {EXPLANATION_SECONDS:g} seconds", status, verdict)
         lines, value = (*explained, None, None)[:2]
         return HookResult(status, verdict, lambda: lines or late.lines(), lambda: value or late.value())
 
@@ -442,18 +430,19 @@ def run_safely(find: Callable[[], HookResult]) -> HookResult:
     try:
         return find()
     except program.ToolError as why:
-        return failure(str(why), why.status if why.status in (program.INTERNAL, program.NOT_BUILT) else program.TROUBLE)
+        status = why.status if why.status in (program.INTERNAL, program.NOT_BUILT) else program.TROUBLE
+        return plain_finding(str(why), status)
     except processes.Unreadable as why:
-        return failure(f"{why} (--force stops it)" if isinstance(why, hold.Waiting) else str(why))
+        return plain_finding(f"{why} (--force stops it)" if isinstance(why, hold.Waiting) else str(why))
     except processes.Interrupted as came:
-        return failure(f"the check was ended by {signal.Signals(came.args[0]).name}")
+        return plain_finding(f"the check was ended by {signal.Signals(came.args[0]).name}")
     except MemoryError:
-        return failure("out of memory")
+        return plain_finding("out of memory")
     except OSError as error:
-        return failure(f"the container can't be inspected: {error.strerror}")
+        return plain_finding(f"the container can't be inspected: {error.strerror}")
     except ModuleNotFoundError as error:
-        return failure(program.why_it_lacks(error), program.NOT_BUILT)
+        return plain_finding(program.why_it_lacks(error), program.NOT_BUILT)
     except Exception as error:  # pylint: disable=broad-exception-caught
         # nothing fails open
-        return failure(str(program.InternalError(f"{program.name()} itself failed: {type(error).__name__}")),
-                       program.INTERNAL)
+        return plain_finding(str(program.InternalError(f"{program.name()} itself failed: {type(error).__name__}")),
+                             program.INTERNAL)

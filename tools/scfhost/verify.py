@@ -126,40 +126,49 @@ def read_saved(folder: str) -> list[Filter]:
     return filters.read_stack(names)
 
 
-def blocks(inspection: Inspection, request: Request) -> list[Block]:
-    return blocks_of(inspection, request.judge, lambda stack, status: Block(
-        stack, status, "strict" if stack.is_strict else UNCONFINED[request.configured]))
+class Verification:
+    """What is found of the threads of a process or a container: a block for each distinct stack, the worst first, whose
+    status and verdict are those of all, unless `others` says which processes may be the container's, too."""
 
+    def __init__(self, inspection: Inspection, request: Request, others: str | None = None) -> None:
+        self.inspection, self.request = inspection, request
+        self.blocks = blocks_of(inspection, request.judge, lambda stack, status: Block(
+            stack, status, "strict" if stack.is_strict else UNCONFINED[request.configured]))
+        self.status, self.verdict = self.blocks[0].status, self.blocks[0].verdict
+        if others is not None and self.status == program.SUCCESS:
+            self.status, self.verdict = program.UNKNOWN, None
 
-def verification_lines(made: Sequence[Block], inspection: Inspection, request: Request,
-                       is_verbose: bool = False) -> Iterator[str]:
-    """scf's lines for each block, with --verbose also the skipped names, and then added lines, marked by `# `."""
-    is_printed = False
-    for at, block in enumerate(made):
-        if at:
-            yield ""
-        if block.judged is not None:
-            report = block.judged.first
-            if is_printed:
-                report = replace(report, skipped=(), architectures=())
-            is_printed = is_printed or report.verdict is not None
-            yield from report.printed if is_verbose else report.brief
-            yield from output.notes(request.notes(block, report))
-        elif request.configured is not None:
-            yield block.verdict or ""
-        yield from output.notes(of_threads(block.stack, inspection))
-    yield from output.notes(inspection.notes)
+    @property
+    def is_refuted(self) -> bool:
+        """Whether filters aren't as the profile says, or can't be compared with it."""
+        return self.status in (program.NEGATIVE, program.TROUBLE) and self.blocks[0].judged is not None
 
+    def lines(self, is_verbose: bool = False) -> Iterator[str]:
+        """scf's lines for each block, with --verbose also the skipped names, and then added lines, marked by `# `."""
+        is_printed = False
+        for at, block in enumerate(self.blocks):
+            if at:
+                yield ""
+            if block.judged is not None:
+                report = block.judged.first
+                if is_printed:
+                    report = replace(report, skipped=(), architectures=())
+                is_printed = is_printed or report.verdict is not None
+                yield from report.printed if is_verbose else report.brief
+                yield from output.notes(self.request.notes(block, report))
+            elif self.request.configured is not None:
+                yield block.verdict or ""
+            yield from output.notes(of_threads(block.stack, self.inspection))
+        yield from output.notes(self.inspection.notes)
 
-def verification_json(made: Sequence[Block], inspection: Inspection, request: Request,
-                      container: str | None) -> dict[str, object]:
-    """The object with all that `verification_lines` prints, and the container; the worst stack has its verdict."""
-    scopes = [block.judged.scope for block in made if block.judged is not None]
-    compared = [{"status": block.status, "verdict": block.verdict} if block.judged is None else comparison_json(
-        block.judged.comparison, block.judged.first, block.judged.scope, block.status) for block in made]
-    return {"status": made[0].status, "scope": [*scopes, request.scope or verdicts.NATIVE_SCOPE][0],
-            "verdict": made[0].verdict, "container": container,
-            "stacks": [{**members, **({"stub": block.stub} if block.stub else {}),
-                        **block.stack.as_json(inspection.names)} for members, block in zip(compared, made)],
-            "passed_over": [{"process": process, "why": why} for process, why in inspection.passed_over.items()],
-            "asked_again": [{"process": process, "thread": thread} for process, thread in inspection.asked_again]}
+    def as_json(self, container: str | None) -> dict[str, object]:
+        """The object with all that is printed, and the container."""
+        inspection, scopes = self.inspection, [block.judged.scope for block in self.blocks if block.judged is not None]
+        compared = [{"status": block.status, "verdict": block.verdict} if block.judged is None else comparison_json(
+            block.judged.comparison, block.judged.first, block.judged.scope, block.status) for block in self.blocks]
+        return {"status": self.status, "scope": [*scopes, self.request.scope or verdicts.NATIVE_SCOPE][0],
+                "verdict": self.verdict, "container": container,
+                "stacks": [{**members, **({"stub": block.stub} if block.stub else {}),
+                            **block.stack.as_json(inspection.names)} for members, block in zip(compared, self.blocks)],
+                "passed_over": [{"process": process, "why": why} for process, why in inspection.passed_over.items()],
+                "asked_again": [{"process": process, "thread": thread} for process, thread in inspection.asked_again]}

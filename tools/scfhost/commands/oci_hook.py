@@ -85,10 +85,10 @@ def judge(options, process):
     config = hooks.configuration_of(process.container)
     if config is None:
         is_confined = process.kernel.status_of(process.container.pid).get("Seccomp") == "2"
-        return hooks.plain_finding(program.SUCCESS if options.allow_unconfined else program.NEGATIVE, hooks.UNSTATED,
-                                   "the configuration has no seccomp profile: " + (
-                                       "the container's first process has a filter that isn't its runtime's"
-                                       if is_confined else "the container isn't confined"))
+        which = "the container's first process has a filter that isn't its runtime's" if is_confined else \
+            "the container isn't confined"
+        return hooks.plain_finding(f"the configuration has no seccomp profile: {which}", program.SUCCESS
+                                   if options.allow_unconfined else program.NEGATIVE, hooks.UNSTATED)
     asked = verify.request_of(config, options.runtime, tables.read_table(options.table),
                               verdicts.NATIVE_SCOPE if options.native else None, RELATION_OF_POLICY[options.policy],
                               keeps_first=options.keep_first)
@@ -120,7 +120,7 @@ def examine(judge_process, seconds, kills, is_json):
         result = examination.result(lambda: judge_process(examination.process), is_json)
         killed = examination.killed
     except hooks.ContainerError as why:
-        result = hooks.failure(str(why))
+        result = hooks.plain_finding(str(why))
     tell(is_json, container, result, killed)
     return result.status
 
@@ -143,7 +143,7 @@ def main():
             return program.SUCCESS
         if not is_hook_with("--kill"):
             raise
-        wrong = hooks.failure(f"usage error: {why}", program.TROUBLE)
+        wrong = hooks.plain_finding(f"usage error: {why}")
         program.say(str(why))
         examine(lambda _: wrong, hooks.DEADLINE, True, False)
         return program.TROUBLE

@@ -200,11 +200,9 @@ def request_of(options, kernel, named):
     return replace(request, others=tuple(others), configured=configured if is_known else None)
 
 
-def other_runtime(options, kernel, request, worst):
+def other_runtime(options, kernel, verification):
     """The line, where filters aren't as configured, that another runtime than was said reads the configuration."""
-    is_other = request.configured and worst.judged is not None and \
-        worst.status in (program.NEGATIVE, program.TROUBLE)
-    if is_other and options.profile is not None:
+    if verification.request.configured and verification.is_refuted and options.profile is not None:
         identifiers = [*configurations.identifiers_of(kernel, options.pid),
                        *configurations.identifiers_in(options.profile)]
         yield from filter(None, [configurations.other_runtime(identifiers, options.runtime)])
@@ -228,29 +226,25 @@ def main():
         return container, processes.look_at_container(kernel, container, is_forced=options.force)
 
     container, inspection = processes.read_or_end(read, has_force=True, is_json=options.json)
-    blocks = verify.blocks(inspection, request)
     others = None if container is None else containers.others_note(kernel, container)
-    is_unknown = others is not None and blocks[0].status == program.SUCCESS
-    status = program.UNKNOWN if is_unknown else blocks[0].status
-    remarks = [*request.remarks, *other_runtime(options, kernel, request, blocks[0])]
+    verification = verify.Verification(inspection, request, others)
+    remarks = [*request.remarks, *other_runtime(options, kernel, verification)]
     if options.json:
-        group = None if container is None else container.description
-        value = {**verify.verification_json(blocks, inspection, request, group), "status": status,
-                 "not_checked": others}
+        value = {**verification.as_json(container and container.description), "not_checked": others}
         if options.runtime is not None or remarks:
             value["remarks"] = remarks
         if named is not None:
             value["named"] = {"name": named.name, "id": named.identifier, "engine": named.engine,
                               "config": named.config}
-        output.put_json({**value, "verdict": None} if is_unknown else value)
-        return status
+        output.put_json(value)
+        return verification.status
     if named is not None:
         output.put_line(f"container {named.name or options.name} ({named.identifier}), {named.engine}, {named.config}")
-    output.put_lines(verify.verification_lines(blocks, inspection, request, options.verbose))
+    output.put_lines(verification.lines(options.verbose))
     output.put_lines(output.notes(remarks))
     if others is not None:
         output.put_line(f"# {others}")
     if container is not None:
         output.put_line(f"# the container is {container.description}; its processes that were checked: "
                         f"{len(inspection.names)}")
-    return status
+    return verification.status

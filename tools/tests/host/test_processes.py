@@ -36,11 +36,11 @@ class Verdicts(Case):
         with mock.patch.object(verify.Request, "judge", lambda _, item: verify.Block(item, 1, "differs", judged)), \
                 mock.patch.object(verify.Request, "notes", lambda *_: iter(())), \
                 mock.patch.object(verify, "comparison_json", lambda *_: {"verdict": "differs"}):
-            made = verify.blocks(actual, request)
-            self.assertEqual([item.verdict for item in made], ["unconfined", "differs", "strict"])
-            self.assertEqual(next(verify.verification_lines(made, actual, request)),
+            made = verify.Verification(actual, request)
+            self.assertEqual([item.verdict for item in made.blocks], ["unconfined", "differs", "strict"])
+            self.assertEqual(next(made.lines()),
                              "# process 9 (c) has no filter: it isn't confined, and every syscall is allowed")
-            value = verify.verification_json(made, actual, request, None)
+            value = made.as_json(None)
         self.assertEqual((value["verdict"], value["status"], [stack["verdict"] for stack in value["stacks"]]),
                          ("unconfined", 1, ["unconfined", "differs", "strict"]))
 
