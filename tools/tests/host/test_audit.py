@@ -1185,12 +1185,6 @@ class Output(Case):
         self.assertEqual([*audit_output.changes(audit_output.Earlier.of_object(value), self.audit)], [])
         self.assertIn('pod="",user="5",verdict="not known"} 1\n', audit_output.metrics(self.audit))
 
-    def test_nothing_changed(self):
-        earlier = audit_output.Earlier.of_object(audit_output.audit_json(self.audit, self.table))
-        self.assertEqual([*audit_output.changes(earlier, self.audit)], [])
-        self.assertIn("# nothing changed since 1970-01-01T00:00:00Z",
-                      [*audit_output.audit_lines(self.audit, self.table, earlier=earlier)])
-
     def test_programs_are_counted(self):
         """Those without a configuration that don't bear on the status are listed by --programs alone, and so are the
         changes of them; objects have all."""

@@ -1,12 +1,12 @@
 """One answer of each gate to the same filters and profile: compare, verify-process, oci-hook, audit and diff, in
-containers of a real runc, crun and podman, and under bwrap."""
+containers of a real runc and crun, and under bwrap; of podman's containers in test_hook_containers."""
 import json
 import os
 import shutil
 
 from support.common import comes, tool
 from support.own_machine import OwnMachine
-from host.test_audit import Podman
+from host.test_audit import Audited
 
 ABIS = NATIVE, I386, X32 = "SCMP_ARCH_X86_64", "SCMP_ARCH_X86", "SCMP_ARCH_X32"
 # What audit says where the others say that nothing is allowed that the profile denies, or that something is.
@@ -30,7 +30,7 @@ ROWS = {"all-listed": ("runc", denying(*ABIS), denying(*ABIS), "all-listed", "no
         "all-open": ("crun", denying(*ABIS), denying(), "one-listed", "more")}
 
 
-class Gates(Podman, OwnMachine):
+class Gates(Audited, OwnMachine):
     def said(self, name, *words, **more):
         """The first line and the status of a tool."""
         status, out, err = self.on(tool(name), *words, **more)
@@ -82,19 +82,6 @@ class Gates(Podman, OwnMachine):
             with self.subTest(name):
                 self.assertEqual(answers, dict.fromkeys(answers, (word, int(word == "more"))))
                 self.assertEqual(audited[name], AUDITED[word])
-
-    def test_a_default_list(self):
-        """podman's, which names all ABIs of the machine."""
-        self.runtime("podman")
-        status, _, err = self.podman("run", "--detach", "--name", "box", "--cgroup-parent", f"/{self.group}",
-                                     "--rootfs", f"{self.bundle('box', None)}/rootfs", "sleep", "1000")
-        self.skip_if(status, f"podman starts no container here: {err}")
-        pid, config, identifier = self.podman("inspect", "-f", "{{.State.Pid}} {{.OCIConfigPath}} {{.Id}}",
-                                              "box")[1].split()
-        state = {"id": identifier, "status": "running", "pid": int(pid), "bundle": os.path.dirname(config)}
-        answers = {**self.of_process(pid, config, "--runtime=runc"), "oci-hook": self.of_hook(state, "--runtime=runc")}
-        self.assertEqual(answers, dict.fromkeys(answers, ("same", 0)))
-        self.assertEqual(self.audited()[identifier], "as configured")
 
     def test_a_sandbox(self):
         """bwrap, which loads what scf made of a profile; nothing is configured for it but what an audit expects."""

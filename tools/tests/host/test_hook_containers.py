@@ -219,11 +219,22 @@ class Podman(Containers):
         super().setUp()
         self.needs("busybox")
         self.name, self.where = f"scf-hook-{os.getpid()}", os.path.join(self.folder, "box")
+        self.parent = "--cgroup-parent", f"/{self.name}"
         make_rootfs(self.where)
+        self.addCleanup(self.remove_groups)
 
     def podman(self, *words):
         settings = podman_settings(self, f"{self.folder}/podman/run")
         return said([*ALONE, "podman", *words], env={**os.environ, **settings})
+
+    def started(self, options, name, *words):
+        """A container of podman with these options and words of `run`: its identifier, first process, configuration."""
+        self.addCleanup(self.podman, "rm", "--force", "--time", "0", name)
+        status, message = self.podman(*options, "run", "--detach", "--name", name, *words, "--rootfs",
+                                      f"{self.where}/rootfs", "sleep", "1000")
+        self.skip_if(status and "oci-hook" not in message, f"podman starts no container here: {message.strip()}")
+        self.assertEqual(status, 0, message)
+        return self.podman("inspect", "--format", "{{.Id}} {{.State.Pid}} {{.OCIConfigPath}}", name)[1].split()
 
     def test_the_default_profile(self):
         self.needs("podman", "runc", "crun")
@@ -231,35 +242,16 @@ class Podman(Containers):
             with self.subTest(runtime):
                 self.file("hooks/scf.json", self.run_tool("oci-hook", "--print-hook", "--kill", "--runtime",
                                                           runtime)[1])
-                self.addCleanup(self.remove_groups)
-                self.addCleanup(self.podman, "rm", "--force", "--time", "0", self.name)
-                status, message = self.podman("--hooks-dir", f"{self.folder}/hooks", "--runtime", shutil.which(runtime),
-                                              "run", "--detach", "--name", self.name, "--cgroup-parent",
-                                              f"/{self.name}", "--rootfs", f"{self.where}/rootfs", "sleep", "1000")
-                if status and "oci-hook" not in message:
-                    self.skipTest(f"podman starts no container here: {message.strip()}")
-                self.assertEqual(status, 0, message)
-                pid = int(self.podman("inspect", "--format", "{{.State.Pid}}", self.name)[1])
-                self.assertTrue(self.runs(pid), message)
-                config = self.config_of(message.strip())
+                options = "--hooks-dir", f"{self.folder}/hooks", "--runtime", shutil.which(runtime)
+                _, pid, config = self.started(options, f"{self.name}-{runtime}", *self.parent)
+                self.assertTrue(self.runs(int(pid)))
                 self.is_same(pid, config, "--runtime", runtime)
                 if runtime == "crun":
                     held = json.loads(text_of(config))["process"]["capabilities"]["bounding"]
                     self.is_same(pid, PODMAN, "--runtime", "podman", "--caps", ",".join(held))
-                self.podman("rm", "--force", "--time", "0", self.name)
-
-    def started(self, runtime, name, *words):
-        """A container of podman: its identifier, its first process and its configuration."""
-        self.addCleanup(self.podman, "rm", "--force", "--time", "0", name)
-        status, message = self.podman("--runtime", shutil.which(runtime), "run", "--detach", "--name", name, *words,
-                                      "--rootfs", f"{self.where}/rootfs", "sleep", "1000")
-        self.skip_if(status, f"podman starts no container here: {message.strip()}")
-        shown = self.podman("inspect", "--format", "{{.Id}} {{.State.Pid}} {{.OCIConfigPath}}", name)[1]
-        return shown.split()
 
     def says(self, runtime, identifier, pid, path, expected):
-        """What verify-process, audit, filters-of and oci-hook say of a container: whether it is confined by its
-        configuration, or unconfined by that."""
+        """What each gate says of a container: whether it is confined by its configuration, or unconfined by that."""
         status, word = (0, "same") if expected == "as configured" else (1, expected)
         for given in ((), ("--all",), ("--no-more",)):
             actual, out, err = self.run_tool("verify-process", "--runtime", runtime, *given, pid, path)
@@ -282,8 +274,7 @@ class Podman(Containers):
     def test_with_and_without_a_profile(self):
         """A container, one in a pod, a privileged one, and one without a profile, by both runtimes."""
         self.needs("podman", "runc", "crun")
-        self.addCleanup(self.remove_groups)
-        pod, parent = f"{self.name}-pod", ("--cgroup-parent", f"/{self.name}")
+        pod, parent = f"{self.name}-pod", self.parent
         self.addCleanup(self.podman, "pod", "rm", "--force", pod)
         status, message = self.podman("pod", "create", "--infra=false", "--name", pod, *parent)
         self.skip_if(status, f"podman makes no pod here: {message.strip()}")
@@ -295,7 +286,8 @@ class Podman(Containers):
                 ("runc", "runc", parent, "as configured"),
                 ("runc", "runc-all", ("--privileged", *parent), "unconfined by configuration")):
             with self.subTest(name):
-                identifier, pid, path = self.started(runtime, f"{self.name}-{name}", *words)
+                options = "--runtime", shutil.which(runtime)
+                identifier, pid, path = self.started(options, f"{self.name}-{name}", *words)
                 self.says("podman" if runtime == "crun" else runtime, identifier, pid, path, expected)
                 actual.append((identifier, pid, path))
         # the configuration of another container
@@ -310,17 +302,10 @@ class Podman(Containers):
         self.needs("podman")
         prefix = f"{self.folder}/prefix"
         subprocess.run(["make", "-s", "-C", TOP, "install", f"PREFIX={prefix}"], check=True)
-        self.addCleanup(self.remove_groups)
-        self.addCleanup(self.podman, "rm", "--force", "--time", "0", self.name)
-        status, message = self.podman("--hooks-dir", f"{prefix}/share/scf/hooks.d", "run", "--detach", "--name",
-                                      self.name, "--cgroup-parent", f"/{self.name}", "--rootfs",
-                                      f"{self.where}/rootfs", "sleep", "1000")
-        self.skip_if(status and "oci-hook" not in message, f"podman starts no container here: {message.strip()}")
-        self.assertEqual(status, 0, message)
-        pid = int(self.podman("inspect", "--format", "{{.State.Pid}}", self.name)[1])
-        bundle = os.path.dirname(self.config_of(message.strip()))
+        identifier, pid, path = self.started(("--hooks-dir", f"{prefix}/share/scf/hooks.d"), self.name, *self.parent)
         hook = json.loads(text_of(f"{prefix}/share/scf/hooks.d/scf.json"))["hook"]
-        state = {"ociVersion": "1.0.2", "id": message.strip(), "status": "running", "pid": pid, "bundle": bundle}
+        state = {"ociVersion": "1.0.2", "id": identifier, "status": "running", "pid": int(pid),
+                 "bundle": os.path.dirname(path)}
         status, out, err = self.run_words([hook["path"], *hook["args"][1:]], json.dumps(state).encode())
         self.assertEqual((status, out), (0, ""))
         self.assertRegex(err, "(?m)^scf-oci-hook: same$")
@@ -332,6 +317,3 @@ class Podman(Containers):
             for inner in [*glob.glob(f"{path}/*/"), path]:
                 with contextlib.suppress(OSError):
                     os.rmdir(inner)
-
-    def config_of(self, identifier):
-        return f"{self.folder}/podman/root/vfs-containers/{identifier}/userdata/config.json"
