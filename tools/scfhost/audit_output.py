@@ -51,7 +51,6 @@ def about(row: AuditRow) -> list[str]:
 
 
 def row_text(row: AuditRow) -> str:
-    """The kind and the name of a row, with its details."""
     details = about(row)
     name = output.cut(short(row.key) if row.name == row.key else row.name, MOST_OF_NAME)
     return f"{row.kind} {name}" + (f" ({', '.join(details)})" if details else "")
@@ -270,7 +269,6 @@ def _metrics(audit: Audit) -> Iterator[output.Metric]:
 
 
 def metrics(audit: Audit) -> str:
-    """The audit in Prometheus's text format."""
     return output.prometheus(_metrics(audit))
 
 
@@ -389,6 +387,5 @@ def _stacks(audit: Audit, table_of: Table) -> Iterator[Markup]:
 
 
 def page(audit: Audit, table_of: Table, earlier: Earlier | None = None) -> str:
-    """The page, with the changes since an earlier audit."""
     return pages.document(f"seccomp audit of {os.uname().nodename}", *_overview(audit, earlier),
                           *_findings(audit, table_of), *_stacks(audit, table_of))

@@ -148,7 +148,6 @@ class AuditRow:
 
     @property
     def names(self) -> dict[int, bytes]:
-        """The names of its processes by their numbers."""
         return {process.number: process.name for process in self.processes}
 
     @property
@@ -210,7 +209,6 @@ class Audit:
 
     @property
     def left_out(self) -> list[str]:
-        """Lines on what wasn't looked at."""
         return [line for lines in self.snapshot.left_out.values() for line in lines]
 
     @property

@@ -142,7 +142,6 @@ def _started_seccomp(settings: Any) -> dict[str, Any] | None:
 
 
 def _without_empty(members: dict[str, Any]) -> dict[str, Any]:
-    """The members that state something."""
     return {name: value for name, value in members.items() if value not in (None, [])}
 
 

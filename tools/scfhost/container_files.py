@@ -182,7 +182,6 @@ class Reader:
             self.unread.append(f"'{folder}' can't be read: {type(error).__name__}")
 
     def add_all(self, folder: str) -> None:
-        """Sends the containers that a runtime has in a folder."""
         try:
             names, is_all = owned_files.names_in(folder, MOST_OF_A_USER)
         except UnreadableFile as why:
@@ -286,7 +285,6 @@ def _send_roots(send: child.Send, more_roots: Sequence[str]) -> None:
 
 
 def _send_users(send: child.Send, user: int, folders: Sequence[str]) -> None:
-    """Sends the containers that a user's files describe."""
     owned_files.leave_users_mounts()
     child.become(user)
     reader = Reader(send, False)
@@ -399,8 +397,6 @@ class ContainerPlaces:
 
 
 class Membership:
-    """The containers of a machine, by their processes."""
-
     def __init__(self, kernel: Kernel, descriptions: Iterable[ContainerDescription],
                  processes: dict[int, Process]) -> None:
         self.kernel = kernel

@@ -43,7 +43,6 @@ class Options:
     has_surfaces: bool = False
 
     def request(self, profile: bytes, relation: str = SAME, **settings: Any) -> verify.Request:
-        """The question how filters stand beside a profile."""
         return verify.Request(ProfileInput(profile), self.table, self.scope, relation, **settings)
 
     def check(self) -> None:
@@ -68,8 +67,6 @@ def of_settings(config: dict[str, Any], runtime: str | None, source: str | None,
 
 
 class Expectations:
-    """The expected profiles of containers and units."""
-
     def __init__(self, options: Options) -> None:
         self.options = options
         self.of_lists: dict[object, Expectation | None] = {}
@@ -129,7 +126,6 @@ class Expectations:
         return self._of_list(path, path, read)
 
     def of_firejail(self, sandbox: sandbox_programs.Firejail) -> Expectation:
-        """The expectation of the programs in a sandbox of firejail."""
         return self._of_list(sandbox, sandbox.profile, lambda: Expectation(
             self.options.request(sandbox.policy().data()), sandbox.profile))
 
@@ -158,7 +154,6 @@ class Expectations:
         return {name: self._of_unit(name, shown.get(name), reader) for name in names}
 
     def _of_unit(self, name: str, shown: dict[str, str] | None, reader: units.ListReader) -> Expectation:
-        """The expectation of a unit, given what systemctl shows of it."""
         source = f"systemctl show {name}"
         if shown is None:
             return Expectation(source=source, why="systemctl shows no such unit")

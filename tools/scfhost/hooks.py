@@ -56,10 +56,6 @@ class ContainerState:
     pid: int
     bundle: str
 
-    @property
-    def description(self) -> str:
-        return f"container {output.escaped(self.name)}"
-
 
 def is_ready(file: int, until: float) -> bool:
     """Waits until there is something to read, or an end, until this time at the latest."""
@@ -315,9 +311,7 @@ class Examination:
     the status is known and before it is explained."""
 
     def __init__(self, process: ContainerProcess, seconds: float, kills: bool) -> None:
-        self.process = process
-        self.seconds = seconds
-        self.kills = kills
+        self.process, self.seconds, self.kills = process, seconds, kills
         self.killed: list[Kill] = []
         self.watchdog: Watchdog | None = None
 
@@ -379,7 +373,7 @@ class Examination:
     def bark(self) -> None:
         """The watchdog's action: it kills the container and reports that."""
         killed = self.process.kill()
-        line = f"{self.process.container.description}: the hook was ended or stopped: {killed.line}"
+        line = f"container {output.escaped(self.process.container.name)}: the hook was ended or stopped: {killed.line}"
         program.say(line)
         write_log(program.name(), program.TROUBLE, [line])
 
@@ -396,8 +390,7 @@ def write_log(name: str, status: int, lines: Sequence[str]) -> None:
 
 
 def verdict_line(container: ContainerState | None, result: HookResult) -> str:
-    """A line that says how it came out."""
-    who = container.description if container else "a container"
+    who = f"container {output.escaped(container.name)}" if container else "a container"
     if result.verdict == UNSTATED:
         return f"{who}: {verify.UNCONFINED[False]}"
     if result.status == program.SUCCESS:
