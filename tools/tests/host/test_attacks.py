@@ -255,8 +255,7 @@ ready()
         self.assertIn(f"of user {USER}: ", "".join(answer["object"]["left_out"]))
 
     def test_names_that_only_root_may_know(self):
-        """Paths through root's folders, links into them and links to files tell nothing, whether there is something or
-        not."""
+        """Paths through root's folders, and links, tell nothing, whether there is something or not."""
         secret = self.file("secret/web/config.json", {"annotations": {"io.podman.annotations.name": "hidden"}})
         hard = os.path.dirname(self.file("hard/x", ""))
         os.link(secret, f"{hard}/config.json")

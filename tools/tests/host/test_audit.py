@@ -29,8 +29,7 @@ OTHER_ERRNO = {**STATED, "syscalls": [{"names": ["mount", "ptrace"], "action": "
 STRICTER = {**STATED, "syscalls": [{"names": ["mount", "ptrace", "chroot"], "action": "SCMP_ACT_ERRNO", "errnoRet": 1}]}
 
 
-# Enters the control groups that it is called with, ends its main thread, and says which process it is; another thread
-# stays, without a filter.
+# Enters the control groups that it is called with, and ends its main thread; another one stays, without a filter.
 WITHOUT_MAIN = """
 import ctypes, os, sys, threading, time
 for path in sys.argv[1:]:
@@ -87,8 +86,7 @@ class Audited:
         return {(row["kind"], row["name"]): row for row in self.audit(*words, status=status, **env)["rows"]}
 
     def restate(self, name, seccomp, keeps=False):
-        """Changes what a container's configuration says, after its start, and unless `keeps` what runc says that it was
-        started with."""
+        """Changes what a container's configuration says after its start, and unless `keeps` what runc keeps of it."""
         names = [] if seccomp is None else [name[10:].lower().replace("x86_64", "amd64")
                                             for name in seccomp.get("architectures", ())]
         started = None if seccomp is None else {"default_action": 4, "architectures": names, "syscalls": [
@@ -324,8 +322,7 @@ class Containers(Audited, OwnMachine):
             self.assertRegex(out, NO_FILTER.format(number, "alpha"))
 
     def test_a_main_thread_that_has_ended(self):
-        """The other threads of its process are the container's, though the kernel shows the process as a zombie in the
-        root group."""
+        """The process's other threads are the container's, though the kernel shows it as a zombie in the root group."""
         self.container("runc", "box", STATED)
         out = f"{self.folder}/number"
         script = (f"/usr/bin/python3 -c '{WITHOUT_MAIN}' {' '.join(self.groups_of('box').values())} >{out} & "
@@ -347,8 +344,7 @@ class Containers(Audited, OwnMachine):
                          {("container", "mine"): ("as configured", [12345])})
 
     def test_files_that_raise(self):
-        """Of a container whose files hold what no runtime writes it isn't known how it is confined; the others are
-        looked at."""
+        """A container whose files hold what no runtime writes isn't known; the others are looked at."""
         self.container("runc", "box", STATED)
         numbers = self.crowd(*((name, [filter_of([0])], 1, 1) for name in ("alpha", "beta", "gamma")))
         config = self.file("odd/config.json", {"linux": {"seccomp": {
@@ -451,8 +447,7 @@ class Users(Audited, OwnMachine):
                          (f"user {self.USER}: {IDENTIFIER}", self.USER, "not known"))
 
     def test_processes_of_others(self):
-        """A user's file that names a process of root, as the first one of all, a pipe in place of a file, and a
-        link to what anybody may read."""
+        """A user's file that names a process of root, or the first one; a pipe; and a link to what anybody may read."""
         numbers = self.crowd(("alpha", [filter_of([0])], 1, 1))
         self.says("a", numbers[0], self.users_bundle())
         self.process("x")
@@ -495,8 +490,7 @@ class Users(Audited, OwnMachine):
         self.assertTrue(row["profile"]["why"].endswith(f"config.json' may be changed by user {self.USER}"), row)
 
     def test_a_file_system_that_does_not_answer(self):
-        """One of the user's own in place of the folder of the user's containers, or on the way to the configuration of
-        one of root's: nothing waits for it."""
+        """A user's own, as the folder of containers or on the way to root's configuration: nothing waits for it."""
         for name in ("web", "other"):
             self.container("runc", name, STATED)
         for where in (f"/run/user/{self.USER}/crun", f"{self.folder}/bundles/other"):
@@ -867,18 +861,16 @@ class WhoseRows(Snaps):
 
     def test_programs(self):
         every = {7: process(7), 8: process(8, user=1000), 9: process(9, user=1001), 10: process(10, user=1000)}
-        self.assertEqual(self.rows_of(every), [("program", None, "/bin/fake", [7]),
-                                               ("program", 1000, "/bin/fake", [8, 10]),
-                                               ("program", 1001, "/bin/fake", [9])])
+        self.assertEqual(self.rows_of(every), [("program", user, "/bin/fake", numbers) for user, numbers in (
+            (None, [7]), (1000, [8, 10]), (1001, [9]))])
 
     def test_units(self):
         """What the system's users run in a unit is the unit's own, and so is what its main process's user runs."""
         groups = {"": b"/system.slice/cron.service"}
         every = {number: process(number, groups=groups, user=user)
                  for number, user in ((7, 0), (8, 33), (9, 1000), (10, 61200), (11, 1001))}
-        self.assertEqual(self.rows_of(every), [("unit", None, "cron.service", [7, 8, 10]),
-                                               ("unit", 1000, "cron.service", [9]),
-                                               ("unit", 1001, "cron.service", [11])])
+        self.assertEqual(self.rows_of(every), [("unit", user, "cron.service", numbers) for user, numbers in (
+            (None, [7, 8, 10]), (1000, [9]), (1001, [11]))])
         self.expectations.main_processes = {"cron.service": 11}
         self.assertEqual(self.rows_of(every)[0], ("unit", None, "cron.service", [7, 8, 10, 11]))
         groups = {"": b"/user.slice/user-1000.slice/user@1000.service/init.scope"}
@@ -1186,8 +1178,7 @@ class Output(Case):
         self.assertIn('pod="",user="5",verdict="not known"} 1\n', audit_output.metrics(self.audit))
 
     def test_programs_are_counted(self):
-        """Those without a configuration that don't bear on the status are listed by --programs alone, and so are the
-        changes of them; objects have all."""
+        """Those that don't bear on the status are listed by --programs alone, and so are their changes."""
         stated = audit_rows.Expectation(source="x", dropped="x")
         self.audit.rows = [unit(name, verdict, kind=audit_rows.OTHER_PROGRAM, expected=expected)
                            for name, verdict, expected in (("fine", "stricter", None), ("worse", "weaker", None),

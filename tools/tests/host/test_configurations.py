@@ -1,5 +1,4 @@
-"""tools/verify-process beside the configuration (config.json) of a container: what is said where nothing is configured,
-and of the mistakes that users make."""
+"""tools/verify-process beside a container's config.json: where nothing is configured, and of users' mistakes."""
 import json
 import os
 import unittest
@@ -209,16 +208,17 @@ class Owners(unittest.TestCase):
             self.assertEqual((str(raised.exception), raised.exception.status), (says, program.TROUBLE))
 
 
-def described(identifier, first, configuration, name=None):
-    """A container of podman, with the settings of its configuration as audit's children answer them."""
-    seccomp = configurations.seccomp_in(configuration, "/box/config.json")
-    return ContainerDescription(identifier, "podman", "crun", first, "/box/config.json",
-                                None if seccomp is None else json.dumps(seccomp), name=name)
-
-
 @here
 class Named(Confined):
     """A container that is named, as audit finds it; the look-up itself is audit's."""
+
+    def find(self, child, identifier, configuration, name=None):
+        """Lets a child be the process of the one container, with the settings as audit's children answer them."""
+        seccomp = configurations.seccomp_in(configuration, "/box/config.json")
+        found = ContainerDescription(identifier, "podman", "crun", child.pid, "/box/config.json",
+                                     None if seccomp is None else json.dumps(seccomp), name=name)
+        self.patched(verify.container_files, "described_containers", lambda *_: [found])
+        self.patched(verify.processes, "container_of", lambda *_: containers.Container(b"/box", lambda: [child.pid]))
 
     def test_its_own_configuration_is_what_counts(self):
         child = self.child([refusing(MOUNT)])
@@ -226,27 +226,20 @@ class Named(Confined):
                 (config("mount"), (), 0, "same"), (config("mount", "ptrace"), ("--no-more",), 1, "more"),
                 ({"linux": {}}, (), 1, "differs"),
                 ({"linux": {}}, (self.file("p.json", refuses("mount")),), 0, "same")):
-            found = described(ONE, child.pid, profile, "box")
-            with self.subTest(profile, words=words), \
-                    mock.patch.object(verify.container_files, "described_containers", lambda *_, it=found: [it]), \
-                    mock.patch.object(verify.processes, "container_of",
-                                      lambda *_: containers.Container(b"/box", lambda: [child.pid])):
+            with self.subTest(profile, words=words):
+                self.find(child, ONE, profile, "box")
                 actual, out, err = self.run_tool("verify", "box", *words)
                 self.assertEqual((actual, out.splitlines()[:2], err),
                                  (status, [f"container box ({ONE}), podman, /box/config.json", says], ""))
 
     def test_without_a_profile_it_is_unconfined_by_configuration(self):
-        child = self.child([])
-        found = described(TWO, child.pid, {"linux": {}})
-        with mock.patch.object(verify.container_files, "described_containers", lambda *_: [found]), \
-                mock.patch.object(verify.processes, "container_of",
-                                  lambda *_: containers.Container(b"/box", lambda: [child.pid])):
-            status, out, _ = self.run_tool("verify", TWO[:6])
-            self.assertEqual((status, out.splitlines()[:2]),
-                             (1, [f"container {TWO[:6]} ({TWO}), podman, /box/config.json", BY_CONFIGURATION]))
-            value = self.json_of("verify", "--json", TWO[:6])
-            self.assertEqual((value["verdict"], value["named"]), (BY_CONFIGURATION, {
-                "name": None, "id": TWO, "engine": "podman", "config": "/box/config.json"}))
+        self.find(self.child([]), TWO, {"linux": {}})
+        status, out, _ = self.run_tool("verify", TWO[:6])
+        self.assertEqual((status, out.splitlines()[:2]),
+                         (1, [f"container {TWO[:6]} ({TWO}), podman, /box/config.json", BY_CONFIGURATION]))
+        value = self.json_of("verify", "--json", TWO[:6])
+        self.assertEqual((value["verdict"], value["named"]), (BY_CONFIGURATION, {
+            "name": None, "id": TWO, "engine": "podman", "config": "/box/config.json"}))
 
 
 class Mistakes(Confined):
@@ -269,9 +262,8 @@ class Mistakes(Confined):
 
     def test_a_configuration(self):
         process = str(os.getpid())
-        self.assertEqual(self.says(process, ""),
-                         "verify-process: the name of PROFILE is empty: the command that should print it printed "
-                         "nothing")
+        self.assertEqual(self.says(process, ""), "verify-process: the name of PROFILE is empty: the command that "
+                                                 "should print it printed nothing")
         path = os.path.join(self.folder, "none", "config.json")
         self.assertEqual(self.says(process, path),
                          f"verify-process: there is no file '{path}': the container has ended, or was removed; of one "
@@ -280,9 +272,9 @@ class Mistakes(Confined):
         self.file("folder", b"")
         self.assertNotIn("has ended", self.says(process, f"{self.folder}/folder/config.json"))
         self.file("bundle/config.json", "{}")
-        self.assertEqual(self.says(process, f"{self.folder}/bundle"),
-                         f"verify-process: '{self.folder}/bundle' is a bundle's folder: take the file config.json in "
-                         f"it")
+        path = f"{self.folder}/bundle"
+        self.assertEqual(self.says(process, path), f"verify-process: '{path}' is a bundle's folder: take the file "
+                                                   "config.json in it")
         self.assertEqual(self.says(process, f"{self.folder}/p.json"),
                          f"verify-process: there is no file '{self.folder}/p.json'")
 

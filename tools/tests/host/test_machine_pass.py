@@ -1,5 +1,4 @@
-"""scfhost.machine_pass: copies of the filters of processes. Those that make it wait or have much to read are in
-test_attacks."""
+"""scfhost.machine_pass: copies of processes' filters. What makes it wait, or is much to read, is in test_attacks."""
 import base64
 import os
 import subprocess

@@ -1,5 +1,4 @@
-"""tools/oci-hook: states and bundles made here, with a child of the test as the container's process. Containers of real
-runtimes are in test_hook_containers."""
+"""tools/oci-hook: states and bundles made here, with a child of the test as the container's process."""
 import json
 import os
 import signal
@@ -362,8 +361,7 @@ class OfProcesses(Hook):
 
 
 def slow(count):
-    """A filter of which it is known at once that it makes mount, which is slow to explain: each other call goes both
-    ways at each of many tests."""
+    """A filter that is known at once to allow mount, and slow to explain: other calls go both ways at many tests."""
     tests = b"".join(load(16 + 8 * (at % 6)) + insn(0x24, 2 * at + 3) + insn(0x45, 1 << at % 31, 1, 0) + insn(0x05, 0)
                      for at in range(count))
     return gate(jeq(MOUNT, 0, 1) + ret(ALLOW) + tests + ret(ALLOW))

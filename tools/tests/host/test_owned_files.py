@@ -72,8 +72,7 @@ class Files(Case):
             self.assertIsNone(self.writer(), name)
 
     def test_links(self):
-        """Root's are followed, as /var/run is; a user's aren't, wherever on the path they stand, and root's aren't to
-        where a user may change something."""
+        """Root's are followed, as /var/run is, but not to where a user may change something; a user's never are."""
         for name, target in (("link", "a"), ("a/up", "../a/b"), ("all", f"{self.folder}/a/b"), ("a/b/last", "c")):
             os.symlink(target, os.path.join(self.folder, name))
         for name in ("link/b/c", "a/up/c", "all/c", "link/up/c", "a/b/last", "a/../a/b/./c", "a//b/c"):
@@ -100,8 +99,7 @@ class Files(Case):
         self.assertRaises(UnreadableFile, owned_files.read_own, "a/b/c", 100)
 
     def test_file_systems_of_users(self):
-        """They aren't asked, whatever characters a user puts into the place of one, its source and its kind; and who
-        leaves them sees what is below."""
+        """They aren't asked, whatever a user calls a place, a source and a kind; who leaves them sees what is below."""
         library = ctypes.CDLL(None, use_errno=True)
         for name, source, kind in (("plain", "x", "fuse"), ("a\rb", "x", "fuse"), ("c", "x\ry", "fuse"),
                                    ("d\x0b e", "\x0c - x", "fuse.a\rb")):
