@@ -8,7 +8,7 @@ import shutil
 import unittest
 
 from support.common import ALLOW, EPERM, Case, completed, filter_of, gate, insn, jeq, load, profile_of, ret, text_of
-from host.test_audit import process
+from host.test_audit import process, unit
 from scftools.model import tables
 from scftools.ask import verdicts
 from scftools.forms.filters import Stack
@@ -103,14 +103,13 @@ class Pages(Case):
                          "(was weaker)", "unconfined"):
             self.assertIn(expected, text)
 
+    def shown(self, *rows):
+        """The text of a page with these rows."""
+        made = audit_rows.Audit(list(rows), machine.Snapshot(), 0.0)
+        return Page(audit_output.page(made, tables.read_table(None)), self).check()
+
     def test_a_reason_stands_once(self):
-        rows = [audit_rows.AuditRow(audit_rows.UNIT, name, [process(8)], audit_rows.Expectation())
-                for name in ("a", "b")]
-        for row in rows:
-            judgement = audit_rows.StackJudgement(audit_rows.NOT_KNOWN, "slow")
-            row.parts = [audit_rows.RowPart({8: [8]}, judgement)]
-        text = Page(audit_output.page(audit_rows.Audit(rows, machine.Snapshot(), 0.0), tables.read_table(None)),
-                    self).check()
+        text = self.shown(*(unit(name, "not known", "slow", {8: [8]}) for name in "ab"))
         self.assertIn("not known unit a, unit b", text)
         self.assertEqual(text[text.index("What shows the verdicts"):].count("slow"), 1)
 
@@ -119,16 +118,12 @@ class Pages(Case):
         for expected, says in ((audit_rows.Expectation(), "nothing is configured"),
                                (audit_rows.Expectation(why="no bus"), "what is configured isn't known: no bus"),
                                (audit_rows.Expectation(source="systemctl", why="no bus"), "systemctl no bus")):
-            row = audit_rows.AuditRow(audit_rows.UNIT, "a.service", [process(8)], expected)
-            row.parts = [audit_rows.RowPart({8: [8]}, audit_rows.StackJudgement(audit_rows.NOT_KNOWN))]
-            made = audit_rows.Audit([row], machine.Snapshot(), 0.0)
-            text = Page(audit_output.page(made, tables.read_table(None)), self).check()
+            text = self.shown(unit("a.service", "not known", expected=expected))
             self.assertIn(says, text)
             self.assertEqual("nothing is configured" in text, says == "nothing is configured")
 
     def test_nothing_to_show(self):
-        table = tables.read_table(None)
-        text = Page(audit_output.page(audit_rows.Audit([], machine.Snapshot(), 0.0), table), self).check()
+        text = self.shown()
         self.assertIn("There is no container, no unit, and no other program with a filter.", text)
         self.assertNotIn("Dangerous syscalls", text)
 

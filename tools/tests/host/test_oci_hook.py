@@ -173,23 +173,19 @@ class OfProcesses(Hook):
         self.assertIn("# the syscall is mount (165)", lines)
 
     def test_a_process_without_a_filter(self):
-        status, lines = self.hook(self.child([]), refuses("mount"), "--wait=0")
+        """It is waited for."""
+        began = time.monotonic()
+        status, lines = self.hook(self.child([]), refuses("mount"), "--wait=1.5")
+        self.assertGreater(time.monotonic() - began, 1.5)
         self.assertEqual((status, lines[0]), (1, "container box: not confined as configured (unconfined)"))
         self.assertIn("has no filter: it isn't confined", lines[1])
 
     def test_a_filter_that_comes_later(self):
-        """It is waited for."""
         child, late = self.child([]), self.file("late", refusing(MOUNT))
         begun = threading.Timer(0.5, lambda: self.do(child, f"confine([{late!r}])"))
         begun.start()
         self.assertEqual(self.hook(child, refuses("mount"), "--wait=60")[0], 0)
         begun.join()
-
-    def test_how_long_it_waits(self):
-        child = self.child([])
-        began = time.monotonic()
-        self.assertEqual(self.hook(child, refuses("mount"), "--wait=1.5")[0], 1)
-        self.assertGreater(time.monotonic() - began, 1.5)
 
     def test_before_the_program_is_executed(self):
         """Of a container that is created only the main thread counts; of one that runs, all do."""
@@ -325,13 +321,6 @@ class OfProcesses(Hook):
                       lines)
         self.assertEqual(child.wait(PATIENCE), -signal.SIGKILL)
         self.assertTrue(comes(lambda: not os.path.exists(f"/proc/{second}")))
-
-    def test_a_configuration_that_states_no_profile(self):
-        for words, wanted in (((), 1), (("--allow-unconfined",), 0)):
-            status, lines = self.hook(self.child([]), None, *words)
-            self.assertEqual((status, lines), (wanted, [
-                "container box: unconfined by configuration",
-                "the configuration has no seccomp profile: the container isn't confined"]))
 
     def test_two_answers_to_one_call(self):
         profile = json.dumps({"defaultAction": "SCMP_ACT_ALLOW", "syscalls": [
