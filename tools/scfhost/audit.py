@@ -95,10 +95,9 @@ class Task:
             if judged["verdict"] not in AUDIT_VERDICTS:
                 raise ValueError(judged["verdict"])
             shown = verdicts.report("\n".join(judged["shown"])).verdict if judged["shown"] else None
+            lists = {name: tuple(judged[name]) for name in ("lines", "not_compared")}
             self.digests[value["stack"]] = judged["digest"]
-            self.rows[value["row"]].judged[value["stack"]] = StackJudgement(**{
-                **judged, "shown": shown, "lines": tuple(judged["lines"]),
-                "not_compared": tuple(judged["not_compared"])})
+            self.rows[value["row"]].judged[value["stack"]] = StackJudgement(**{**judged, **lists, "shown": shown})
 
     @property
     def is_over(self) -> bool:
@@ -120,9 +119,8 @@ class Judges:
     def judge(self, tasks: Sequence[Task], budget: child.Budget) -> dict[int, str]:
         """Adds the verdicts that rows wait for, and what stacks allow; says of which some still wait, and why."""
         lacking = [at for at, task in enumerate(tasks) if self.lacks(task)]
-        lost = child.ask_each(
-            [lambda send, seconds, task=task: self.send_all(task, send, seconds) for task in tasks],
-            budget.shares(lacking), lambda at, value: tasks[at].receive(value), _begin)
+        works = [lambda send, seconds, task=task: self.send_all(task, send, seconds) for task in tasks]
+        lost = child.ask_each(works, budget.shares(lacking), lambda at, value: tasks[at].receive(value), _begin)
         if len(self.known) > MOST_KEPT:
             for kept in (self.known, self.resolved, self.surfaces):
                 kept.clear()
@@ -274,8 +272,8 @@ class Assessor:
         # (those that may take long come last)
         confined = sorted((process for row in rows for process in row.processes if process.is_confined),
                           key=lambda process: (process.is_stuck, len(process.threads), process.number))
-        copies = machine_pass.Copies(self.kernel, (process.number for process in confined),
-                                     self.judges.options.is_forced)
+        numbers = [process.number for process in confined]
+        copies = machine_pass.Copies(self.kernel, numbers, self.judges.options.is_forced)
         return Task(user, rows, copies, self.surfaces.setdefault(user, {}))
 
     def look(self, tasks: Sequence[Task], budget: child.Budget) -> list[Task]:
@@ -284,8 +282,8 @@ class Assessor:
         while tasks:
             began, count, whys = time.monotonic(), len(tasks), {}
             if self.why is None and any(task.copies.waiting for task in tasks):
-                count, whys = machine_pass.read_each([task.copies for task in tasks],
-                                                     child.Budget(budget.remaining / 2))
+                half = child.Budget(budget.remaining / 2)
+                count, whys = machine_pass.read_each([task.copies for task in tasks], half)
             share = (budget.remaining + began - time.monotonic()) * count / len(tasks)
             judging = self.judges.judge(tasks[:count], child.Budget(share))
             late += [task for at, task in enumerate(tasks[:count])

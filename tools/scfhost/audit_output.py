@@ -15,9 +15,8 @@ from scftools.ask import client
 from scftools.ask.verdicts import OTHERWISE
 from scftools.report import pages
 from scftools.report.pages import Markup, Named, c_call, joined, listed, preformatted, tag
-from .audit_rows import (
-    AS_CONFIGURED, AUDIT_VERDICTS, CONTAINER, NOT_KNOWN, OTHER_PROGRAM, ROW_KINDS, STRICTER, UNIT, WEAKER, Audit,
-    AuditRow, RowPart, StackJudgement, is_only_counted)
+from .audit_rows import (AS_CONFIGURED, AUDIT_VERDICTS, CONTAINER, NOT_KNOWN, OTHER_PROGRAM, ROW_KINDS, STRICTER, UNIT,
+                         WEAKER, Audit, AuditRow, RowPart, StackJudgement, is_only_counted)
 
 # At most so many processes of a row are named in a line, and so many characters of a name are printed.
 MOST_PROCESSES, MOST_OF_NAME = 3, 200
@@ -337,9 +336,8 @@ def _shown(judgement: StackJudgement, table_of: Table) -> Iterator[Markup]:
 def _findings(audit: Audit, table_of: Table) -> Iterator[Markup]:
     """The evidence of each verdict that isn't `as configured`; verdicts with the same reason stand together."""
     yield tag("h2", "What shows the verdicts")
-    bad = [(row, part) for row in audit.rows for part in row.parts
-           if part.judgement.verdict not in (AS_CONFIGURED, STRICTER) and
-           (part.judgement.why is not None or part.judgement.shown is not None)]
+    bad = [(row, part) for row in audit.rows for part in row.parts if part.judgement.verdict not in (
+        AS_CONFIGURED, STRICTER) and (part.judgement.why is not None or part.judgement.shown is not None)]
     if not bad:
         yield tag("p", "Nothing is weaker than configured, otherwise, or not known.")
     alike: dict[object, list[tuple[AuditRow, RowPart]]] = {}

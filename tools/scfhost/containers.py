@@ -140,9 +140,8 @@ def container_of(kernel: Kernel, process: int) -> Container:
         return group is not None and group.has(groups_of(kernel, number))
 
     if group is not None:
-        return Container(group.path, lambda: list(filter(is_in_group, kernel.processes())),
-                         lambda: [number for number in in_space()
-                                  if not is_in_group(number) and is_unknown(kernel, number)])
+        return Container(group.path, lambda: list(filter(is_in_group, kernel.processes())), lambda: [
+            number for number in in_space() if not is_in_group(number) and is_unknown(kernel, number)])
     if not has_space:
         raise Unreadable(f"process {process} is in no container: its control group is the root, and its PID namespace "
                          f"this tool's")

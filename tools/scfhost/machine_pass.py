@@ -107,10 +107,9 @@ class _Reader(processes.Kernel):
                 return
             seen.update(now)
             # (those that end meanwhile aren't listed again)
-            yield processes.read_threads(
-                self, lambda threads=now: {thread: number for thread in threads
-                                     if os.path.exists(f"/proc/{number}/task/{thread}")},
-                patience, self.is_forced, self.restarts)
+            yield processes.read_threads(self, lambda threads=now: {
+                thread: number for thread in threads if os.path.exists(f"/proc/{number}/task/{thread}")
+            }, patience, self.is_forced, self.restarts)
 
 
 class Copies:
