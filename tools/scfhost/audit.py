@@ -359,7 +359,7 @@ def audit_machine(options: Options, judges: Judges) -> Audit:
     snapshot = machine.read_machine(kernel, why)
     containers = described_containers(kernel, snapshot, options.roots, child.Budget(SECONDS_OF_FILES))
     maker = RowMaker(kernel, snapshot, Expectations(options), containers)
-    turnover = machine.Turnover(kernel, {place.container.first: place.group for place in maker.members.grouped})
+    turnover = machine.Turnover(kernel, maker.members.of_root.groups)
     turnover.look()
     rows = maker.rows()
     assessor = Assessor(kernel, snapshot, judges, why)

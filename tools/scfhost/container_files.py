@@ -332,15 +332,6 @@ def described_containers(kernel: Kernel, snapshot: Snapshot, more_roots: Sequenc
     return list(by_first.values())
 
 
-@dataclass(frozen=True)
-class Place:
-    """Where a container's processes are: its control group, its PID namespace, or else its first process alone."""
-
-    container: ContainerDescription
-    group: containers.Group | None
-    space: tuple[int, int] | None
-
-
 def _named_group(process: Process) -> containers.Group | None:
     """The control group that a runtime names as a container's, at or above a process's."""
     for hierarchy in containers.HIERARCHIES:
@@ -350,10 +341,10 @@ def _named_group(process: Process) -> containers.Group | None:
     return None
 
 
-def place_of(kernel: Kernel, container: ContainerDescription, process: Process) -> Place:
-    """Where the processes of a container are, given its first one: in the control group that its runtime's file states,
-    if the process is in it or below. One that has this tool or the machine's first process in it isn't its own: it was
-    started without one. What a user's file states isn't believed: it could be a group of others."""
+def own_group_of(kernel: Kernel, container: ContainerDescription, process: Process) -> containers.Group | None:
+    """The control group of a container, given its first process: the one that its runtime's file states, if the process
+    is in it or below. One that has this tool or the machine's first process in it isn't its own: it was started without
+    one. What a user's file states isn't believed: it could be a group of others."""
     paths: dict[str, bytes] = {}
     for hierarchy in (*containers.HIERARCHIES, *process.groups) if container.user is None else ():
         path = process.groups.get(hierarchy, b"/")
@@ -362,26 +353,34 @@ def place_of(kernel: Kernel, container: ContainerDescription, process: Process) 
                 paths[hierarchy] = path
             path = path.rpartition(b"/")[0]
     group = containers.Group.of(next(iter(paths)), paths, process.groups, True) if paths else _named_group(process)
-    if group is not None and any(group.has(kernel.groups_of(number)) for number in (1, os.getpid())):
-        group = None
-    is_first = process.inner == 1 and len(process.spaces) > 1
-    return Place(container, group, process.spaces[0] if is_first else None)
+    is_others = group is not None and any(group.has(kernel.groups_of(number)) for number in (1, os.getpid()))
+    return None if is_others else group
 
 
 class ContainerPlaces:
-    """Where some containers are, to find those of processes."""
+    """Where some containers are: in control groups, in PID namespaces, or else below their first processes."""
 
-    def __init__(self, places: Sequence[Place], processes: dict[int, Process]) -> None:
-        self.by_group: dict[tuple[str, bytes], list[Place]] = {}
-        for place in places:
-            for group in {(place.group.hierarchy, place.group.path), *place.group.others} if place.group else ():
-                self.by_group.setdefault(group, []).append(place)
+    def __init__(self, kernel: Kernel, described: Iterable[ContainerDescription],
+                 processes: dict[int, Process]) -> None:
+        # their own groups, by their first processes
+        self.groups: dict[int, containers.Group] = {}
+        self.by_group: dict[tuple[str, bytes], list[ContainerDescription]] = {}
+        self.by_space: dict[tuple[int, int], ContainerDescription] = {}
+        firsts: dict[int, ContainerDescription] = {}
+        # (of two that name one, the first)
+        for container in described:
+            first = processes[container.first]
+            group = own_group_of(kernel, container, first)
+            if group is not None:
+                self.groups[first.number] = group
+            for each in group.paths.items() if group is not None else ():
+                self.by_group.setdefault(each, []).append(container)
+            if first.inner == 1 and len(first.spaces) > 1:
+                self.by_space.setdefault(first.spaces[0], container)
+            firsts.setdefault(first.number, container)
         # how many names the paths of these groups have
         self.depths = {path.count(b"/") for _, path in self.by_group}
-        # (of two that name one, the first)
-        self.by_space = {place.space: place.container for place in reversed(places) if place.space is not None}
-        self.by_ancestor = inherited(processes, {
-            place.container.first: place.container for place in reversed(places)})
+        self.by_ancestor = inherited(processes, firsts)
 
     def containers_of(self, process: Process) -> Iterator[ContainerDescription]:
         """The containers that a process may be of, the most likely one first: of groups the innermost."""
@@ -391,7 +390,7 @@ class ContainerPlaces:
             for depth in self.depths:
                 if depth < len(names):
                     found += self.by_group.get((hierarchy, b"/".join(names[:depth + 1])), ())
-        yield from (place.container for place in sorted(found, key=lambda place: -len(place.group.path)))
+        yield from sorted(found, key=lambda container: -len(self.groups[container.first].path))
         yield from (self.by_space[space] for space in process.spaces if space in self.by_space)
         yield from filter(None, [self.by_ancestor[process.number]])
 
@@ -400,13 +399,12 @@ class Membership:
     def __init__(self, kernel: Kernel, descriptions: Iterable[ContainerDescription],
                  processes: dict[int, Process]) -> None:
         self.kernel = kernel
-        places = [place_of(kernel, container, processes[container.first]) for container in descriptions
-                  if container.first in processes]
-        self.of_root = ContainerPlaces([place for place in places if place.container.user is None], processes)
-        self.of_users = ContainerPlaces([place for place in places if place.container.user is not None], processes)
-        # the groups of pods, by the containers in them; and root's containers that have a group of their own
-        self.grouped = [place for place in places if place.group is not None and place.container.user is None]
-        self.pods = {place.group.path.rpartition(b"/")[0] for place in self.grouped}
+        running = [container for container in descriptions if container.first in processes]
+        self.of_root, self.of_users = (ContainerPlaces(kernel, [
+            container for container in running if (container.user is None) == is_root], processes)
+            for is_root in (True, False))
+        # the groups of pods, by the containers in them
+        self.pods = {group.path.rpartition(b"/")[0] for group in self.of_root.groups.values()}
 
     def container_of(self, process: Process, is_stated: bool = False) -> ContainerDescription | None:
         """The container of a process, None if it is of none. What root's files say comes first; then the unit of which

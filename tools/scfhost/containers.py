@@ -47,8 +47,8 @@ class Group:
     path: bytes
     # whether it is known to be a container's
     is_of_container: bool
-    # the container's groups in further hierarchies of version 1
-    others: tuple[tuple[str, bytes], ...] = ()
+    # the container's groups, by their hierarchies: of version 1 there are several
+    paths: dict[str, bytes]
 
     @classmethod
     def of(cls, hierarchy: str, paths: dict[str, bytes], groups: dict[str, bytes], is_of_container: bool) -> Group:
@@ -56,12 +56,12 @@ class Group:
         further hierarchy it has the same path if that process is there, too."""
         path = paths[hierarchy]
         same = {name: path for name, its_path in groups.items() if is_within(its_path, path)}
-        return cls(hierarchy, path, is_of_container, tuple({**same, **paths}.items()))
+        return cls(hierarchy, path, is_of_container, {**same, **paths})
 
     def has(self, groups: dict[str, bytes]) -> bool:
         """Whether a process with these groups, by their hierarchies, is in it or in a group below, in any hierarchy: in
         version 1 a process may be moved out of the container's group in one of them and stay there in another."""
-        return any(is_within(groups.get(name, b""), path) for name, path in ((self.hierarchy, self.path), *self.others))
+        return any(is_within(groups.get(name, b""), path) for name, path in self.paths.items())
 
 
 @dataclass
