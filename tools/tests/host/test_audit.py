@@ -922,12 +922,10 @@ class Descriptions(Case):
                 ("/x", (("root", 7, None, "/x"),), {}, "root"), (f"/machine.slice/{name}", (user,), {}, IDENTIFIER),
                 (self.OWN, (user,), {}, "user"), (self.OWN, (user,), {"user": 1}, IDENTIFIER),
                 (self.OWN, (), {}, IDENTIFIER),
-                # a group that a user made outside of users' slices, where root gave the user one, takes no process from
-                # a unit of the system
+                # a group that a user made outside of users' slices takes no process from a unit of the system
                 (f"/mine/{name}", (), of_user, IDENTIFIER), (f"/mine/{name}", (user,), of_user, "user"),
                 (f"{in_unit}.scope", (), of_user, None), (f"{in_unit}.scope", (), {}, IDENTIFIER),
-                # what a unit states is for its processes, whatever users say, and whatever their groups are called;
-                # root's containers in it are containers
+                # what a unit states is for its processes, whatever users say and groups are called; not for containers
                 (in_unit, (), stated, None), (in_unit, (user,), stated, None), (in_unit, (root,), stated, "root"),
                 (in_unit, (), {}, IDENTIFIER), (in_unit, (user,), {}, IDENTIFIER), (in_unit, (root,), {}, "root"),
                 # the group of a pod, in which root's containers have groups, isn't a container's, wherever it is

@@ -20,8 +20,7 @@ def denying(*architectures):
 
 
 # By name: the runtime, the profile that it loads, the one that is stated later, the row whose filter is as that says,
-# and what is to be said then. For what a list doesn't name libseccomp's filters kill the thread, and the profile the
-# process.
+# what is said then. For what a list doesn't name libseccomp's filters kill the thread, and the profile the process.
 ROWS = {"all-listed": ("runc", denying(*ABIS), denying(*ABIS), "all-listed", "no more"),
         "one-listed": ("crun", denying(NATIVE), denying(NATIVE), "one-listed", "no more"),
         "no-list": ("runc", denying(NATIVE), denying(), "one-listed", "no more"),

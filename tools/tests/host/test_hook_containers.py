@@ -84,11 +84,6 @@ class Containers(Hook):
 
 
 class Runtimes(Containers):
-    def test_one_that_is_confined(self):
-        for runtime in ("runc", "crun"):
-            with self.subTest(runtime), self.container(runtime, LOADED, LOADED, "--kill") as (status, message, pid):
-                self.assertEqual((status, self.runs(pid)), (0, True), message)
-
     def test_runc_refuses_one_that_is_not(self):
         """A container whose hook fails."""
         value = json.loads(refuses("mount", "chroot"))
@@ -119,10 +114,10 @@ class Runtimes(Containers):
                     self.assertEqual((status, self.runs(pid)), (0, True), message)
                     self.is_same(pid, self.box.config, "--runtime", runtime)
 
-    def test_processes_that_were_brought_in(self):
-        """All processes of a container are looked at."""
+    def test_one_that_is_confined(self):
+        """It runs on; all its processes are looked at, also those that were brought in."""
         for runtime in ("runc", "crun"):
-            with self.subTest(runtime), self.container(runtime) as (status, message, pid):
+            with self.subTest(runtime), self.container(runtime, None, None, "--kill") as (status, message, pid):
                 self.assertEqual(status, 0, message)
                 self.box.call("exec", "--detach", self.box.name, "sleep", "999")
                 lines = self.of_status(0, self.by_hand("--kill"))

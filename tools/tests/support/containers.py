@@ -47,8 +47,7 @@ class Box:
         return said([*before, *self.words, *words], **settings)
 
     def make(self, config, *words, **settings):
-        """Has the runtime make the container, by default run it: the status, what was said, and the container's
-        process, None where there is none."""
+        """Has the runtime make the container, by default run it: status, what was said, and its process if any."""
         self.configure(config)
         status, message = self.call(*(words or ("run", "--detach")), "--bundle", self.where, "--pid-file",
                                     f"{self.where}/pid", self.name, **settings)

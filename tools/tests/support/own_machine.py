@@ -17,9 +17,8 @@ from .confined import children_of, here
 
 BUSYBOX = shutil.which("busybox")
 ROOT = unittest.skipIf(os.getuid(), "only root makes namespaces")
-# Starts processes: its words are a JSON list of a name, the names of filters' files, the number of processes and the
-# number of threads of each. Each process waits in read(2), which its filters must allow. It prints their numbers, and
-# ends.
+# Starts processes: its words are a JSON list of a name, the names of filters' files, and how many processes with how
+# many threads. Each process waits in read(2), which its filters must allow. It prints their numbers, and ends.
 CROWD = LOADER + r"""
 threading.stack_size(1 << 16)
 read, write = os.pipe()
