@@ -51,8 +51,7 @@ ANSWER = ({"row": int, "digest": (str, None), "why": (str, None)}, {"row": int, 
 
 def _begin() -> None:
     """What a child that judges does first."""
-    path = client.built_program()
-    if path is not None:
+    if (path := client.built_program()) is not None:
         # (it may be where only root can look for it)
         file = os.open(path, os.O_PATH)
         os.set_inheritable(file, True)

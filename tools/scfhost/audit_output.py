@@ -348,8 +348,7 @@ def _findings(audit: Audit, table_of: Table) -> Iterator[Markup]:
         judgement, names = pairs[0][1].judgement, dict.fromkeys(row_text(row) for row, _ in pairs)
         yield tag("h3", _coloured(judgement.verdict), f" {', '.join(names)}")
         yield from _shown(judgement, table_of)
-        commands = [line for row, part in pairs for line in repeat(row, part)]
-        if commands:
+        if commands := [line for row, part in pairs for line in repeat(row, part)]:
             yield tag("p", "To repeat it:")
             yield preformatted(commands)
 

@@ -70,8 +70,7 @@ def member(value: Any, wanted: str, path: str) -> Any:
     """A member of an object in a configuration; refused if a runtime in Go also reads another one as it."""
     if not isinstance(value, dict):
         raise ContainerError(f"'{path}' isn't a container's configuration")
-    others = [name for name in value if name != wanted and profiles.folded(name) == wanted]
-    if others:
+    if others := [name for name in value if name != wanted and profiles.folded(name) == wanted]:
         raise ContainerError(f"'{path}' has a member '{others[0]}', which runc reads as {wanted} and crun doesn't")
     return value.get(wanted)
 

@@ -335,8 +335,7 @@ def described_containers(kernel: Kernel, snapshot: Snapshot, more_roots: Sequenc
 def _named_group(process: Process) -> containers.Group | None:
     """The control group that a runtime names as a container's, at or above a process's."""
     for hierarchy in containers.HIERARCHIES:
-        match = containers.CONTAINER_GROUP.match(process.groups.get(hierarchy, b""))
-        if match:
+        if match := containers.CONTAINER_GROUP.match(process.groups.get(hierarchy, b"")):
             return containers.Group.of(hierarchy, {hierarchy: match[0]}, process.groups, True)
     return None
 
@@ -428,8 +427,7 @@ class Membership:
 def named_container(process: Process, kernel: Kernel) -> ContainerDescription | None:
     """The container of a process that only the name of its control group tells; of a user who owns the group or one
     above it, and so may have named it."""
-    group = _named_group(process)
-    if group is None:
+    if (group := _named_group(process)) is None:
         return None
     parts = [part for part in group.path.split(b"/") if part not in (b"", b"container", b"payload")]
     named = GROUP_IDENTIFIER.fullmatch(parts[-1])
@@ -444,7 +442,6 @@ def unit_of(process: Process) -> str | None:
     """The system's unit of a process, as the name of its control group tells."""
     for hierarchy in SYSTEMD_HIERARCHIES:
         parts = process.groups.get(hierarchy, b"").split(b"/")[1:]
-        match = UNIT_GROUP.fullmatch(next((part for part in parts if not part.endswith(b".slice")), b""))
-        if match:
+        if match := UNIT_GROUP.fullmatch(next((part for part in parts if not part.endswith(b".slice")), b"")):
             return match[1].decode("ascii")
     return None

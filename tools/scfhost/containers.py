@@ -96,14 +96,10 @@ def groups_of(kernel: Kernel, process: int) -> dict[str, bytes]:
 
 def known_groups(roots: Sequence[bytes], path: bytes) -> Iterator[bytes]:
     """The groups at or above a process's that are known to be a container's, given the roots that it sees mounted."""
-    for root in roots:
-        if root != b"/" and is_within(path, root):
-            yield root
-    named = CONTAINER_GROUP.match(path)
-    if named:
+    yield from (root for root in roots if root != b"/" and is_within(path, root))
+    if named := CONTAINER_GROUP.match(path):
         yield named[0]
-    below = MANAGER_OF_CONTAINER.match(path)
-    if below and not MANAGER_OF_A_USER.fullmatch(below[1]):
+    if (below := MANAGER_OF_CONTAINER.match(path)) and not MANAGER_OF_A_USER.fullmatch(below[1]):
         yield below[1]
 
 
@@ -159,8 +155,7 @@ def is_unknown(kernel: Kernel, process: int) -> bool:
 
 def others_note(kernel: Kernel, container: Container) -> str | None:
     """The line about processes that may also be the container's, and aren't checked."""
-    others = container.others()
-    if not others:
+    if not (others := container.others()):
         return None
     shown = output.some([f"{number} ({output.escaped(kernel.name_of(number))})" for number in others], MOST_SHOWN)
     return (f"processes of its PID namespace in other control groups weren't checked: {shown}; whether they are the "

@@ -88,8 +88,7 @@ class Expectations:
 
     def of_container(self, container: ContainerDescription) -> Expectation:
         """The expectation of a container; what its settings mean is found out by a child."""
-        stated = self.of_all(container.runtime)
-        if stated is not None:
+        if (stated := self.of_all(container.runtime)) is not None:
             return stated
         if container.engine == "LXC" and container.user is None:
             return self._of_lxc(container)
@@ -116,8 +115,7 @@ class Expectations:
         path = os.path.join(sandbox_programs.LXC_CONTAINERS, container.identifier, "config")
 
         def read() -> Expectation:
-            policy_path = sandbox_programs.lxc_policy(path)
-            if policy_path is None:
+            if (policy_path := sandbox_programs.lxc_policy(path)) is None:
                 return Expectation(source=path)
             policy = lxc.read_lxc_policy(owned_files.read_own(policy_path, sandbox_rules.MOST_LIST_BYTES))
             policies = [policy, *policy.others] if self.options.scope is None else [policy]
@@ -183,8 +181,7 @@ class RowMaker:
     def rows(self) -> list[AuditRow]:
         rows: dict[tuple[object, ...], AuditRow] = {}
         for process in self.snapshot.processes.values():
-            row = self.row_of(process)
-            if row is not None:
+            if (row := self.row_of(process)) is not None:
                 rows.setdefault((row.kind, row.user, row.place or row.key), row).processes.append(process)
         # where a container's description stands is added to its key if one before it of the same user has the key, too:
         # those come first that files describe, then those that only a group's name tells

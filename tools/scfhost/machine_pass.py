@@ -101,10 +101,7 @@ class _Reader(processes.Kernel):
         """Reads the threads of a process, some at a time, until none is new."""
         seen: set[int] = set()
         most = len(self.threads_of(number)) + MOST_NEW
-        while len(seen) < most:
-            now = [thread for thread in self.threads_of(number) if thread not in seen][:MOST_HELD]
-            if not now:
-                return
+        while len(seen) < most and (now := [each for each in self.threads_of(number) if each not in seen][:MOST_HELD]):
             seen.update(now)
             # (those that end meanwhile aren't listed again)
             yield processes.read_threads(self, lambda threads=now: {

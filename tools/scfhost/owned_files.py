@@ -106,8 +106,7 @@ def read_file(path: str, most: int) -> bytes:
 
 def read_own(path: str, most: int) -> bytes:
     """The bytes of a file that only root, or the user of this tool, could have changed."""
-    user = writer_of(path)
-    if user is not None:
+    if (user := writer_of(path)) is not None:
         raise UnreadableFile(f"'{path}' may be changed by {'any user' if user == ANYONE else f'user {user}'}")
     return read_file(path, most)
 

@@ -119,8 +119,7 @@ def request_of(config: dict[str, Any], runtime: str | None, *settings: Any, keep
 
 def read_saved(folder: str) -> list[Filter]:
     """The filters that were saved in a folder, oldest first."""
-    names = filters.saved_in(folder)
-    if not names:
+    if not (names := filters.saved_in(folder)):
         raise program.ToolError(f"the folder '{output.escaped(folder)}' has no *.bpf: `scf filters-of PID FOLDER` "
                                 "writes those of a process")
     return filters.read_stack(names)
