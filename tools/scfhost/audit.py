@@ -206,8 +206,7 @@ class Judges:
 
     def judge_by(self, stack: Stack, asked: verify.Request | None, relation: str = SAME) -> StackJudgement:
         """The verdict beside a profile, or where nothing is configured."""
-        asked_of = asked or verify.nothing_request(self.options.table)
-        comparison = asked_of.comparison(stack.named, relation)
+        comparison = (asked or verify.nothing_request(self.options.table)).comparison(stack.named, relation)
         # (one of which nothing is shown needs no second look)
         verdict = comparison.known_verdict(comparison.scope, relation) if asked is None else None
         if verdict is None:
