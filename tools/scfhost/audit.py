@@ -66,6 +66,8 @@ class Task:
                  surfaces_of: dict[str, ShownSurface]) -> None:
         self.user, self.rows, self.copies, self.surfaces_of = user, rows, copies, surfaces_of
         self.keys = [row.expected.key for row in rows]
+        # of each row the parts by the indexes of their stacks
+        self.parts: list[dict[int, RowPart]] = [{} for _ in rows]
 
     def begin(self) -> None:
         """Before the stacks are judged that were copied."""
@@ -73,14 +75,12 @@ class Task:
         self.stacks = list(self.copies.stacks.values())
         filters = {data: output.sha256(data) for stack in self.stacks for data in stack.filters}
         self.stack_keys = [output.sha256("".join(map(filters.get, stack.filters)).encode()) for stack in self.stacks]
-        # of each row the threads of its processes by the indexes of their stacks
-        self.threads: list[dict[int, dict[int, list[int]]]] = [{} for _ in self.rows]
-        of_row = {process.number: at for at, row in enumerate(self.rows) for process in row.processes}
+        of_row = {process.number: parts for row, parts in zip(self.rows, self.parts) for process in row.processes}
         for index, stack in enumerate(self.stacks):
-            for number in sorted(stack.threads):
-                self.threads[of_row[number]].setdefault(index, {})[number] = stack.threads[number]
-        for row, its in zip(self.rows, self.threads):
-            row.judged = {index: row.judged.get(index) for index in its if self.stacks[index].filters}
+            lengths = tuple(len(data) // 8 for data in stack.filters)
+            for number, threads in stack.threads.items():
+                part = of_row[number].setdefault(index, RowPart({}, None, lengths, stack.is_strict))
+                part.threads[number] = threads
 
     def receive(self, value: Any) -> None:
         value = child.checked(value, ANSWER)
@@ -89,18 +89,23 @@ class Task:
         elif "stack" not in value:
             row = self.rows[value["row"]]
             row.expected = replace(row.expected, dropped=value["digest"], why=value["why"])
-        elif self.rows[value["row"]].judged[value["stack"]] is None:
+        elif (part := self.parts[value["row"]][value["stack"]]).lengths and part.judgement is None:
             judged = value["judgement"]
             if judged["verdict"] not in AUDIT_VERDICTS:
                 raise ValueError(judged["verdict"])
             shown = verdicts.report("\n".join(judged["shown"])).verdict if judged["shown"] else None
             lists = {name: tuple(judged[name]) for name in ("lines", "not_compared")}
             self.digests[value["stack"]] = judged["digest"]
-            self.rows[value["row"]].judged[value["stack"]] = StackJudgement(**{**judged, **lists, "shown": shown})
+            part.judgement = StackJudgement(**{**judged, **lists, "shown": shown})
+
+    def waits(self, at: int) -> bool:
+        """Whether a child has to judge something of a row."""
+        return self.rows[at].expected.is_unresolved or any(
+            part.judgement is None and part.lengths for part in self.parts[at].values())
 
     @property
     def is_over(self) -> bool:
-        return not any(row.waits for row in self.rows)
+        return not any(map(self.waits, range(len(self.rows))))
 
 
 class Judges:
@@ -130,12 +135,12 @@ class Judges:
     def lacks(self, of: Task) -> bool:
         """Whether something is to be found out that isn't known from rows of root's."""
         of.begin()
-        for row, key in zip(of.rows, of.keys):
+        for row, key, parts in zip(of.rows, of.keys, of.parts):
             if row.expected.is_unresolved and key in self.resolved:
                 row.expected = replace(row.expected, dropped=self.resolved[key])
-            row.judged = {number: judged or self.known.get((key, of.stack_keys[number]))
-                          for number, judged in row.judged.items()}
-            of.digests.update((number, judged.digest) for number, judged in row.judged.items() if judged is not None)
+            for number, part in parts.items():
+                part.judgement = part.judgement or self.known.get((key, of.stack_keys[number]))
+                of.digests.update({number: part.judgement.digest} if part.judgement is not None else {})
         of.surfaces_of.update((digest, self.surfaces[digest]) for digest in of.digests.values()
                               if digest in self.surfaces)
         return not of.is_over or self.options.has_surfaces and not of.surfaces_of.keys() >= {*of.digests.values()}
@@ -143,25 +148,26 @@ class Judges:
     def keep(self, of: Task) -> None:
         """Keeps what was found out of a row of root's."""
         self.surfaces.update(of.surfaces_of if of.user is None else {})
-        for row, key in zip(of.rows, of.keys) if of.user is None else ():
+        for row, key, parts in zip(of.rows, of.keys, of.parts) if of.user is None else ():
             if row.expected.dropped is not None:
                 self.resolved[key] = row.expected.dropped
-            self.known.update(((key, of.stack_keys[number]), judged) for number, judged in row.judged.items()
-                              if judged is not None and judged.verdict != NOT_KNOWN)
+            self.known.update(((key, of.stack_keys[number]), part.judgement) for number, part in parts.items()
+                              if part.judgement is not None and part.judgement.verdict != NOT_KNOWN)
 
     def send_all(self, of: Task, send: child.Send, seconds: float) -> None:
         """Judges, in a child, what waits, and sends that."""
         client.begin_limits(seconds * SHARE_OF_SCF, False)
         digests = {}
-        for at, (row, key) in enumerate(zip(of.rows, of.keys)):
+        for at, (row, key, parts) in enumerate(zip(of.rows, of.keys, of.parts)):
             expected = row.expected
-            if row.waits and expected.settings is not None:
+            if of.waits(at) and expected.settings is not None:
                 if key not in self.meanings:
                     self.meanings[key] = of_settings(json.loads(expected.settings), expected.runtime, expected.source,
                                                      self.options)
                 expected = self.meanings[key]
                 send({"row": at, "digest": expected.digest, "why": expected.why})
-            for number, judgement in row.judged.items():
+            for number in (number for number, part in parts.items() if part.lengths):
+                judgement = parts[number].judgement
                 if judgement is None:
                     stack, its_key = of.stacks[number], (key, of.stack_keys[number])
                     if its_key not in self.known:
@@ -292,12 +298,12 @@ class Assessor:
 
     def is_late(self, task: Task, why: str | None, judging: str | None) -> bool:
         """Adds the parts of a task's rows; whether it has some for which the time wasn't enough, by these reasons."""
-        for row, its in zip(task.rows, task.threads):
+        for row, parts in zip(task.rows, task.parts):
             waiting = {**dict.fromkeys(task.copies.waiting, why), **task.copies.unread}
             row.parts = [RowPart({process.number: []}, StackJudgement(NOT_KNOWN, waiting[process.number]))
                          for process in row.processes if process.number in waiting
                          and ticks_at_start(process.number) == process.start]
-            row.parts += self.parts_of(row, [(task.stacks[index], index, its[index]) for index in its], judging)
+            row.parts += self.parts_of(row, parts.values(), judging)
             row.parts.sort(key=lambda part: part.judgement.order)
             alive = {number for part in row.parts for number in part.threads}
             for process in row.processes:
@@ -311,17 +317,16 @@ class Assessor:
             task.copies.forget()
         return is_late
 
-    def parts_of(self, row: AuditRow, stacks: list[tuple[Stack, int, dict[int, list[int]]]],
-                 judging: str | None) -> Iterator[RowPart]:
-        """The parts of a row's stacks, with their indexes and threads; `judging` says why some aren't judged."""
+    def parts_of(self, row: AuditRow, parts: Iterable[RowPart], judging: str | None) -> Iterator[RowPart]:
+        """The parts of a row, each with a verdict; `judging` says why some aren't judged."""
         plain = {process.number: list(process.threads) for process in row.processes if not process.is_confined}
-        for stack, index, threads in stacks:
-            if not stack.filters and not stack.is_strict:
-                plain.update(threads)
+        for part in parts:
+            if not part.lengths and not part.is_strict:
+                plain.update(part.threads)
                 continue
-            why = judging if stack.filters else "it is in seccomp's strict mode, which no profile expresses"
-            judgement = row.judged.get(index) or StackJudgement(NOT_KNOWN, why)
-            yield RowPart(threads, judgement, tuple(len(data) // 8 for data in stack.filters), stack.is_strict)
+            why = judging if part.lengths else "it is in seccomp's strict mode, which no profile expresses"
+            yield replace(part, threads=dict(sorted(part.threads.items())),
+                          judgement=part.judgement or StackJudgement(NOT_KNOWN, why))
         if plain:
             verdict = UNCONFINED_THOUGH if row.expected.is_stated else BY_CONFIGURATION
             why = row.expected.why or ("it isn't looked at" if row.expected.is_unresolved else None)
@@ -336,7 +341,7 @@ class Assessor:
             return
         time.sleep(TO_CONFINE)
         for row in early:
-            before, row.processes, row.judged = row.processes, [], {}
+            before, row.processes = row.processes, []
             for process in before:
                 now = machine.process_of_number(self.kernel, process.number)
                 self.snapshot.processes.pop(process.number, None)

@@ -103,6 +103,7 @@ class RowPart:
 
     # the threads that have it, by their processes
     threads: dict[int, list[int]]
+    # None while it waits for one
     judgement: StackJudgement
     # the lengths of its filters
     lengths: tuple[int, ...] = ()
@@ -126,13 +127,6 @@ class AuditRow:
     # the ID of the user who alone describes it, or whose processes it has; None for root
     user: int | None = None
     parts: list[RowPart] = field(default_factory=list)
-    # the verdicts on its stacks, by their indexes; None of one that waits for it
-    judged: dict[int, StackJudgement | None] = field(default_factory=dict)
-
-    @property
-    def waits(self) -> bool:
-        """Whether a child has to judge something of it."""
-        return self.expected.is_unresolved or None in self.judged.values()
 
     @property
     def worst(self) -> StackJudgement:

@@ -151,8 +151,7 @@ class ContainerProcess:
     """The container's first process, the same one even if its ID is reused, and the others of the container."""
 
     def __init__(self, container: ContainerState) -> None:
-        self.container = container
-        self.kernel = Kernel()
+        self.container, self.kernel = container, Kernel()
         try:
             self.file = os.pidfd_open(container.pid)
         except ProcessLookupError as error:

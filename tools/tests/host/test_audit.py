@@ -986,7 +986,7 @@ class Kept(Case):
         self.verdict = verdict
         task = self.task(is_root)
         self.assertEqual(self.judges.judge([task], audit.child.Budget(1.0)), {})
-        return task.rows[0].judged[0].verdict
+        return task.parts[0][0].judgement.verdict
 
     def test_whose_they_are(self):
         """Those on a user's things aren't taken for anything, the others for any row, but for what isn't known."""
@@ -1011,7 +1011,7 @@ class Kept(Case):
         task, self.verdict = self.task(True), "fine"
         with self.assertRaises(ValueError):
             self.judges.judge([task], audit.child.Budget(1.0))
-        self.assertEqual((task.rows[0].judged, self.judges.known), ({0: None}, {}))
+        self.assertEqual((task.parts[0][0].judgement, self.judges.known), (None, {}))
 
 
 def unit(name, verdict="weaker", why=None, threads=(), kind=audit_rows.UNIT, expected=None):
