@@ -336,8 +336,7 @@ class Assessor:
 
     def look_again(self, rows: Iterable[AuditRow]) -> None:
         """Reads those processes again that have no filter though one is configured, since they may just be starting."""
-        early = [row for row in rows if row.verdict == UNCONFINED_THOUGH]
-        if not early:
+        if not (early := [row for row in rows if row.verdict == UNCONFINED_THOUGH]):
             return
         time.sleep(TO_CONFINE)
         for row in early:

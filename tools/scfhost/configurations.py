@@ -89,10 +89,9 @@ def other_runtime(identifiers: Sequence[str], runtime: str | None) -> str | None
     """The line on the runtime of a container with one of these identifiers, if its files show another than was said."""
     runtime_program = runtimes.RUNTIMES[runtime].program if runtime is not None else None
     for name, file in STATES.items():
-        folders = (f"/run/{name}/{identifier}" for identifier in identifiers)
-        folder = next((folder for folder in folders if os.path.exists(f"{folder}/{file}")), None)
-        if folder is not None and name != runtime_program:
-            return f"the container's runtime is {name}, by {folder}: --runtime {name} reads the profile as it does"
+        for folder in (f"/run/{name}/{identifier}" for identifier in identifiers if name != runtime_program):
+            if os.path.exists(f"{folder}/{file}"):
+                return f"the container's runtime is {name}, by {folder}: --runtime {name} reads the profile as it does"
     return None
 
 
