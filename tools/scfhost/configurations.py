@@ -1,6 +1,5 @@
-"""Containers' configurations (config.json): what is one, what it says of seccomp, whether it is a process's, and
-whether it still says what runc started the container with, which that keeps in its state.json (configs.Seccomp of
-libcontainer/configs/config.go)."""
+"""Containers' configurations (config.json): what is one, what it says of seccomp, whether it is a process's, and what
+runc started the container with, as its state.json has that (configs.Seccomp of libcontainer/configs/config.go)."""
 from __future__ import annotations
 
 import os

@@ -6,8 +6,7 @@ user could have written describes only processes of that user, and no process th
 speak of. It is read by a child that has that user's rights (`child`), so it has nothing that the user can't read.
 
 A container's own control group is the one that its runtime's file states, or that a runtime names so; of a container
-without one, the processes are those of its PID namespace; and of one with neither, its first process and that one's
-descendants.
+without one, the processes are those of its PID namespace, or else its first process and that one's descendants.
 """
 from __future__ import annotations
 

@@ -1,8 +1,7 @@
 """The filters of some processes of a machine, as a child copies them that has root's rights for nothing else.
 
 Processes are stopped one after another, each for as long as its own filters are read (`hold`), and of one with many
-threads some of these at a time. A process that can't be read doesn't keep the others from it. Each distinct filter is
-kept once, and as bytes.
+threads some of these at a time. One that can't be read doesn't keep the others from it. A filter is kept once.
 """
 from __future__ import annotations
 
