@@ -332,6 +332,7 @@ class VerifyProcess(Confined):
         child = self.strict_child()
         self.assertEqual(self.verify(child, ALLOWS_ALL),
                          (4, f"# {self.called(child)} has no filter, but seccomp's strict mode\n"))
+        self.assertEqual(json.loads(self.verify(child, ALLOWS_ALL, "--json")[1])["verdict"], "strict")
         self.assertEqual(self.run_tool("filters-of", str(child.pid), "out")[0], 1)
 
     @here

@@ -12,37 +12,14 @@ from unittest import mock
 from support.common import ALLOW, PATIENCE, TOP, Case, comes, ret, sample
 from support.confined import NEWEST, OLDEST, OTHER, Confined, FakeKernel, here, processes, ptrace, status_of
 from scftools.base import child as children
-from scftools.ask import verdicts
-from scftools.forms.profile_inputs import ProfileInput
-from scftools.forms.filters import Inspection, Stack, threads_text
-from scfhost import hold, verify
+from scftools.forms.filters import threads_text
+from scfhost import hold
 
 SEIZE, INTERRUPT, DETACH, GET = (ptrace.PTRACE_SEIZE, ptrace.PTRACE_INTERRUPT, ptrace.PTRACE_DETACH,
                                  ptrace.PTRACE_SECCOMP_GET_FILTER)
 STOPPED = 0x80057F
 # A look in the process of the test, where it sees what is asked.
 here_and_now = mock.patch.object(children, "run_in_child", lambda work, _: work())
-
-
-class Verdicts(Case):
-    """In which order distinct stacks are reported."""
-
-    def test_the_unconfined_first(self):
-        """A thread without a filter stands before filters that differ, in text and in JSON."""
-        actual = Inspection([Stack((OLDEST,), False, {7: [7]}), Stack((), True, {8: [8]}), Stack((), False, {9: [9]})],
-                            {7: b"a", 8: b"b", 9: b"c"}, {})
-        request = verify.Request(ProfileInput(b"{}"), None)
-        judged = verify.Judgement(None, 1, verdicts.Report(("differs",), verdicts.Verdict("differs")), "native")
-        with mock.patch.object(verify.Request, "judge", lambda _, item: verify.Block(item, 1, "differs", judged)), \
-                mock.patch.object(verify.Request, "notes", lambda *_: iter(())), \
-                mock.patch.object(verify, "comparison_json", lambda *_: {"verdict": "differs"}):
-            made = verify.Verification(actual, request)
-            self.assertEqual([item.verdict for item in made.blocks], ["unconfined", "differs", "strict"])
-            self.assertEqual(next(made.lines()),
-                             "# process 9 (c) has no filter: it isn't confined, and every syscall is allowed")
-            value = made.as_json(None)
-        self.assertEqual((value["verdict"], value["status"], [stack["verdict"] for stack in value["stacks"]]),
-                         ("unconfined", 1, ["unconfined", "differs", "strict"]))
 
 
 class Asked(Case):
