@@ -247,6 +247,11 @@ class UnitProfile(Case):
                 (["read", "", "~mount"], ALLOW, {(KILL, None): {"mount"}}),
                 (["~read:kill", "~"], ALLOW, {(KILL, None): {"read"}})):
             self.assertEqual(self.printed("--set", *lists), ((default, None), calls, ALL, ""), lists)
+        # what systemd ignores
+        for words, says in (("read @none", "@none left out: systemd knows no such group"),
+                            ("read mount:EPERM", "mount:EPERM left out: a syscall that is allowed takes no errno")):
+            self.assertEqual(self.printed("--set", words), ((KILL, None), {(ALLOW, None): implied | {"read"}}, ALL,
+                                                            f"unit-profile: {says}\n"))
         for lists in ([""], ["read", ""], ["~"]):
             self.assertEqual(self.printed("--set", *lists)[:2], ((ALLOW, None), {}))
         self.assertEqual(self.printed("--set", "read", "--errno", "EPERM", "--architectures", "native x86", "--log",
@@ -296,15 +301,11 @@ class UnitProfile(Case):
         answer = self.answered("box.service")[0]
         self.assertEqual([answer(name) for name in ("sethostname", "uname", "read")], [EPERM, (LOG, None), OPEN])
 
-    def test_settings_that_are_off(self):
-        self.shows(**{**dict.fromkeys(OTHERS, "no"), "RestrictAddressFamilies": "~", "Personality": "x86"},
-                   SystemCallFilter="read")
-        self.assertEqual(self.printed("box.service"), ((KILL, None), {OPEN: {"read"}}, ALL, ""))
-
     def test_whether_there_are_filters(self):
         """SystemCallArchitectures= adds one only if it leaves out an architecture of the kernel."""
         others = [({name: text}, True) for name, text, _ in ANSWERS]
-        for members, expected in (({}, False), ({"SystemCallArchitectures": "x86 x32"}, False),
+        are_off = {**dict.fromkeys(OTHERS, "no"), "RestrictAddressFamilies": "~", "Personality": "x86"}
+        for members, expected in (({}, False), (are_off, False), ({"SystemCallArchitectures": "x86 x32"}, False),
                                   ({"SystemCallArchitectures": "native"}, True), ({"SystemCallFilter": "read"}, True),
                                   ({"SystemCallLog": "read"}, True), *others):
             shown = {"SystemCallFilter": "~", "NeedDaemonReload": "no", "FragmentPath": self.unit_file("u", ""),
@@ -414,13 +415,6 @@ class UnitProfile(Case):
             self.refused(2, says, "box.service")
         self.with_setting("LockPersonality", "yes", Personality="s390x \x1b[2J")
         self.refused(2, "'s390x \\x1b[2J' isn't a personality of x86-64", "box.service")
-
-    def test_what_systemd_ignores(self):
-        for lists, says in (("read @none", "@none left out: systemd knows no such group"),
-                            ("read mount:EPERM", "mount:EPERM left out: a syscall that is allowed takes no errno")):
-            default, calls, _, err = self.printed("--set", lists)
-            self.assertEqual((default, calls), ((KILL, None), {(ALLOW, None): {"brk", "exit_group", "read"}}))
-            self.assertEqual(err, f"unit-profile: {says}\n")
 
     def test_what_is_refused(self):
         for words, says in ((("--set", "read", "--errno=-1"), "'-1' isn't an errno"),

@@ -188,25 +188,21 @@ class Supervisor:
         os.close(self.file)
 
     def receives(self, seconds=PATIENCE):
-        """The next system call, which is counted; None where none comes in so many seconds."""
-        if not select.select([self.file], [], [], seconds)[0]:
-            return None
+        """The next system call, which is counted; None where none comes in so many seconds, or it was taken back."""
         asked = bytearray(80)
-        try:
-            fcntl.ioctl(self.file, SECCOMP_IOCTL_NOTIF_RECV, asked)
-        except FileNotFoundError:
-            # it was taken back
-            return None
-        self.names.append(struct.unpack_from("<QIIi", asked)[3])
-        return struct.unpack_from("<Q", asked)[0]
+        with contextlib.suppress(FileNotFoundError):
+            if select.select([self.file], [], [], seconds)[0]:
+                fcntl.ioctl(self.file, SECCOMP_IOCTL_NOTIF_RECV, asked)
+                self.names.append(struct.unpack_from("<QIIi", asked)[3])
+                return struct.unpack_from("<Q", asked)[0]
+        return None
 
     def answers(self, call, result):
         """Whether an answer came in time."""
-        try:
+        with contextlib.suppress(FileNotFoundError):
             fcntl.ioctl(self.file, SECCOMP_IOCTL_NOTIF_SEND, struct.pack("<QqiI", call, result, 0, 0))
-        except FileNotFoundError:
-            return False
-        return True
+            return True
+        return False
 
 
 class FakeKernel:

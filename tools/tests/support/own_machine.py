@@ -125,14 +125,11 @@ class Machine(Case):
         with tempfile.TemporaryFile() as out, tempfile.TemporaryFile() as err:
             done = subprocess.run([*enter, *words], input=given, stdout=out, stderr=err, env={**os.environ, **env},
                                   check=False, timeout=PATIENCE)
-            out, err = (self.text_of(item) for item in (out, err))
+            for file in (out, err):
+                file.seek(0)
+            out, err = (file.read().decode("utf-8", "replace") for file in (out, err))
         self.assertEqual(list(json_schema.faults_of_output(words, out, done.returncode)), [], words)
         return done.returncode, out, err
-
-    @staticmethod
-    def text_of(file):
-        file.seek(0)
-        return file.read().decode("utf-8", "replace")
 
     def end(self):
         """Ends all of its processes."""
