@@ -157,8 +157,10 @@ class Hold:
             time.sleep(PAUSE)
             with self.lock:
                 for thread in {*self.seized, *self.stopping, *self.leaving, *self.stopped}:
-                    if os.WIFSTOPPED(self.states.get(thread, STOPPED)):
-                        self.states.update({thread: state for state in self.state_of(thread)})
+                    before = self.states.get(thread, STOPPED)
+                    state = self.kernel.wait(thread) if os.WIFSTOPPED(before) else None
+                    if state is not None:
+                        self.states[thread] = state
 
     def seize(self, thread: int) -> None:
         self.lock.release()
@@ -261,13 +263,9 @@ class Hold:
 
     def look_at_traced(self) -> None:
         for thread in (*self.seized, *self.stopping, *self.leaving):
-            for state in self.state_of(thread):
+            state = self.kernel.wait(thread)
+            if state is not None:
                 self.note(thread, state)
-
-    def state_of(self, thread: int) -> tuple[int, ...]:
-        """The state that a thread stopped or ended in, if it did; 0 of one that isn't there."""
-        state = unless_refused(0, self.kernel.wait, thread)
-        return () if state is None else (state,)
 
     def note(self, thread: int, state: int) -> None:
         """A thread has stopped or ended."""
@@ -304,7 +302,7 @@ class Hold:
             self.kernel.ptrace(PTRACE_DETACH, thread, None, given)
         except OSError:
             # It ends, which its parent is told only once its tracer has waited for it; or it never stopped.
-            if not self.state_of(thread):
+            if self.kernel.wait(thread) is None:
                 self.leaving.add(thread)
 
     def let_stopped_go(self) -> None:

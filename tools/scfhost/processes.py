@@ -93,8 +93,7 @@ def look_at_process(kernel: Kernel, process: int, thread: int | None = None, pat
     inspection = look(kernel, lambda: {number: process for number in kernel.threads_of(process)
                                        if thread in (None, number)}, patience, is_forced)
     if not inspection.stacks:
-        who = called(process if thread is None else thread, process)
-        raise Unreadable(f"{who} {inspection.passed_over.get(process, 'has ended')}")
+        raise Unreadable(f"{called(thread or process, process)} {inspection.passed_over.get(process, 'has ended')}")
     return inspection
 
 

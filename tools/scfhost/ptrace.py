@@ -154,8 +154,8 @@ class Kernel:
         return b"seccomp" in contents(f"/proc/{thread}/wchan")
 
     def wait(self, thread: int) -> int | None:
-        """The state that the thread stopped or ended in, or None where it is in none yet."""
-        stopped, state = os.waitpid(thread, WALL | os.WNOHANG)
+        """The state that the thread stopped or ended in, 0 of one that isn't there, or None where it is in none yet."""
+        stopped, state = unless_refused((thread, 0), os.waitpid, thread, WALL | os.WNOHANG)
         return state if stopped else None
 
     def is_proc_ours(self) -> bool:

@@ -9,8 +9,8 @@ import sys
 import time
 import unittest
 
-from support.common import (ALLOW, EPERM, I386, PATIENCE, TABLE, bytes_of, comes, gate, jeq, load, module, profile_of,
-                            ret, text_of, tool)
+from support.common import (ALLOW, CONFINED, EPERM, I386, PATIENCE, TABLE, bytes_of, comes, gate, jeq, load, module,
+                            profile_of, ret, text_of, tool)
 from support.confined import CHILD, NEWEST, OLDEST, OTHER, Confined, children_of, ended, here, processes, status_of
 from support.containers import Box
 from support.own_machine import remove_groups, spec_of
@@ -40,9 +40,6 @@ def comments(out):
     return [line[2:] for line in out.split("\n") if line.startswith("# ")]
 
 
-NO_PROCESS = "there is no process {}: it has ended, or that is its number in another PID namespace"
-
-
 class Programs(Confined):
     """Both tools, as far as they are alike."""
 
@@ -67,8 +64,9 @@ class Programs(Confined):
         zombie.kill()
         self.wait_for(zombie.pid, "Z")
         profile = self.file("p", ALLOWS_ALL)
-        zombies = f"process {zombie.pid} is a zombie: it has ended, and waits for its parent"
-        for pid, why in ((str(gone.pid), NO_PROCESS.format(gone.pid)), (str(zombie.pid), zombies)):
+        is_gone = f"there is no process {gone.pid}: it has ended, or that is its number in another PID namespace"
+        is_zombie = f"process {zombie.pid} is a zombie: it has ended, and waits for its parent"
+        for pid, why in ((str(gone.pid), is_gone), (str(zombie.pid), is_zombie)):
             for name, *words in (("filters-of", pid, "out"), ("verify-process", pid, profile)):
                 self.assertEqual(self.run_tool(name, *words), (2, "", f"{name}: {why}\n"))
             for name, *words in (("verify-process", pid, profile), ("surface", "--pid", pid)):
@@ -76,7 +74,7 @@ class Programs(Confined):
                 self.assertEqual((status, err), (2, f"{name}: {why}\n"))
                 self.assertEqual(json.loads(out), {"status": 2, "verdict": None, "stacks": [], "why": why, "schema": 3})
         self.assertEqual(self.run_tool("verify-process", "--all", str(gone.pid), profile),
-                         (2, "", f"verify-process: {NO_PROCESS.format(gone.pid)}\n"))
+                         (2, "", f"verify-process: {is_gone}\n"))
 
     @here
     def test_the_first_process_of_a_namespace(self):
@@ -89,18 +87,13 @@ class Programs(Confined):
                               "status 1\n")
         self.assertEqual((status, err), (1, "filters-of: process 1 has no filter\n"))
 
-    def beside(self):
-        """The tools where every user may read them."""
-        tree = self.made_tree("#!/bin/sh\nexit 125\n")
-        os.chmod(self.folder, 0o755)
-        os.chmod(tree, 0o755)
-        return tree
-
     @here
     def test_without_rights(self):
         self.skip_if(not os.access("/usr/bin/python3", os.X_OK), "there is no Python that every user may run")
-        child = self.child([OLDEST])
-        done = self.run_words([f"{self.beside()}/tools/filters-of", str(child.pid), "out"], user=65534, group=65534,
+        child, tree = self.child([OLDEST]), self.made_tree("#!/bin/sh\nexit 125\n")
+        for folder in (self.folder, tree):
+            os.chmod(folder, 0o755)
+        done = self.run_words([f"{tree}/tools/filters-of", str(child.pid), "out"], user=65534, group=65534,
                               extra_groups=[], env={"PATH": "/usr/bin:/bin"})
         self.assertEqual(done, (2, "", "filters-of: the kernel shows filters only to a process with CAP_SYS_ADMIN: run "
                                        "this as root, outside of containers\n"))
@@ -108,9 +101,8 @@ class Programs(Confined):
     @here
     def test_under_a_filter_itself(self):
         child = self.child([OLDEST])
-        script = CHILD.partition("numbers =")[0] + "confine(sys.argv[1:2]); os.execv(sys.argv[2], sys.argv[2:])"
         self.is_refusal("this tool runs under a filter itself", self.run_words(
-            [sys.executable, "-c", script, self.file("own", OLDEST), tool("filters-of"), str(child.pid), "out"]))
+            [sys.executable, "-c", CONFINED, self.file("own", OLDEST), tool("filters-of"), str(child.pid), "out"]))
 
     def holding(self, child, number, does):
         """A tool that holds a child, and gets a signal, which it was started to heed or to ignore: whoever runs the

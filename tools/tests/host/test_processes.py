@@ -198,8 +198,7 @@ class Asked(Case):
             self.assertEqual([(stack.filters, stack.is_strict) for stack in inspection.stacks], [((), is_strict)])
 
     def test_the_process_ends_or_never_stops(self):
-        for fails, states in (({}, [0]), ({}, [signal.SIGKILL]), ({}, [ChildProcessError(errno.ECHILD, "none")]),
-                              ({INTERRUPT: errno.ESRCH}, [ChildProcessError(errno.ECHILD, "none")])):
+        for fails, states in (({}, [0]), ({}, [signal.SIGKILL]), ({INTERRUPT: errno.ESRCH}, [0])):
             kernel = FakeKernel([OLDEST], fails, states=states, listings=[(7,), ()])
             self.assertEqual(self.text_of_error(processes.Unreadable, self.look, kernel), "process 7 has ended")
         kernel = FakeKernel([OLDEST], states=[None], status={"State": "D (disk sleep)"})
@@ -227,9 +226,10 @@ class Asked(Case):
             self.assertEqual(signal.pthread_sigmask(signal.SIG_BLOCK, ()), set())
 
     def test_threads_are_waited_for_whatever_they_are(self):
-        with mock.patch("os.waitpid", return_value=(0, 0)) as wait:
-            self.assertIsNone(processes.Kernel().wait(7))
-        wait.assert_called_once_with(7, 0x40000000 | os.WNOHANG)
+        for actual, state in (((0, 0), None), ((7, STOPPED), STOPPED), (ChildProcessError(errno.ECHILD, "none"), 0)):
+            with mock.patch("os.waitpid", side_effect=[actual]) as wait:
+                self.assertEqual(processes.Kernel().wait(7), state)
+            wait.assert_called_once_with(7, 0x40000000 | os.WNOHANG)
 
     def test_containers(self):
         groups = {7: {"": b"/", "name=systemd": b"/box", "pids": b"/other"}, 8: {"name=systemd": b"/box/inner"},

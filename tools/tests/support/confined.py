@@ -249,10 +249,7 @@ class FakeKernel:
         return len(self.filters[place]) // 8
 
     def wait(self, _):
-        state = self.states.pop(0) if len(self.states) > 1 else self.states[0]
-        if isinstance(state, Exception):
-            raise state
-        return state
+        return self.states.pop(0) if len(self.states) > 1 else self.states[0]
 
     def registers(self, _):
         """Those of a thread that is in no system call."""
