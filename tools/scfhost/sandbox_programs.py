@@ -7,6 +7,7 @@ snapd names control groups by the tag: those of services, and with a UUID those 
 """
 from __future__ import annotations
 
+import contextlib
 import itertools
 import os
 from collections.abc import Iterator
@@ -46,22 +47,19 @@ def _names_in(folder: str) -> list[str]:
 
 def lxc_policy(path: str) -> str | None:
     """The path of the policy that a configuration names last, if it names one. Raises UnreadableFile."""
-    policies = [value for name, value in _lxc_settings(path, itertools.count(1))
-                if name in ("lxc.seccomp.profile", "lxc.seccomp")]
-    return policies[-1] or None if policies else None
+    return [None, *_lxc_policies(path, itertools.count(1))][-1] or None
 
 
-def _lxc_settings(path: str, files: Iterator[int]) -> Iterator[tuple[str, str]]:
-    """The settings in a file and in those that it includes; `files` counts them."""
+def _lxc_policies(path: str, files: Iterator[int]) -> Iterator[str]:
+    """The policies that a file and those that it includes name; `files` counts these."""
     if next(files) > MOST_FILES:
         raise UnreadableFile(f"'{path}' is included after too many others")
     for line in owned_files.read_own(path, MOST_CONFIG_BYTES).decode("utf-8", "surrogateescape").split("\n"):
         name, equals, value = (part.strip() for part in line.partition("="))
-        if not equals or name.startswith("#"):
-            continue
-        for included in _included(value) if name == "lxc.include" else ():
-            yield from _lxc_settings(included, files)
-        yield name, value
+        for included in _included(value) if equals and name == "lxc.include" else ():
+            yield from _lxc_policies(included, files)
+        if equals and name in ("lxc.seccomp.profile", "lxc.seccomp"):
+            yield value
 
 
 def _included(path: str) -> list[str]:
@@ -95,18 +93,13 @@ def firejails_of(processes: dict[int, Process]) -> dict[int, Firejail | None]:
     """The sandbox of each process: that of its nearest ancestor that started one. A file tells of none if it isn't
     root's, has no path, or is that of an earlier process with this number."""
     sandboxes: dict[int, Firejail] = {}
-    for name in _names_in(FIREJAIL_SANDBOXES):
-        process = processes.get(int(name)) if name.isascii() and name.isdigit() else None
-        if process is None:
-            continue
-        file = os.path.join(FIREJAIL_SANDBOXES, name)
-        try:
+    by_name = {str(process.number): process for process in processes.values()}
+    for name in filter(by_name.__contains__, _names_in(FIREJAIL_SANDBOXES)):
+        process, file = by_name[name], os.path.join(FIREJAIL_SANDBOXES, name)
+        with contextlib.suppress(UnreadableFile, OSError):
             path = os.fsdecode(owned_files.read_own(file, MOST_PATH).rstrip(b"\n"))
-            is_its = os.stat(file).st_mtime >= process.started_at - SLACK
-        except (UnreadableFile, OSError):
-            continue
-        if path.startswith("/") and is_its:
-            sandboxes[process.number] = Firejail(process.number, path)
+            if path.startswith("/") and os.stat(file).st_mtime >= process.started_at - SLACK:
+                sandboxes[process.number] = Firejail(process.number, path)
     return inherited(processes, sandboxes)
 
 

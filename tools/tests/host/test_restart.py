@@ -111,40 +111,30 @@ class Restarts(Confined):
             self.assertGreaterEqual(float(message[2]), WAIT)
         self.runs_on(child)
 
-    def go_on(self, cases, goes_on_as):
-        """Each goes on as it should, and ends when it should."""
-        children, numbers = [self.child([denying(answer)]) for answer, _ in cases], []
-        for child, (_, name) in zip(children, cases):
+    def test_how_calls_go_on(self):
+        """Anew, where the filters deny restart_syscall; and else with the time that is left, as where nobody looks.
+        Some do without it. Each ends when it should."""
+        anew = [(KILL_PROCESS, name) for name in (*RESTARTED, *BEGIN_ANEW)]
+        anew += [(answer, name) for answer in DENIALS[1:] for name in ("nanosleep", "nanosleep of i386")]
+        cases = [(answer, name, CALLS[name][0]) for answer, name in anew]
+        cases += [(ALLOW, name, RESTART_32 if "i386" in name else RESTART) for name in RESTARTED]
+        cases += [(LOG, "nanosleep", RESTART), *((KILL_PROCESS, name, 0) for name in END)]
+        children, numbers = [self.child([denying(answer)]) for answer, _, _ in cases], []
+        for child, (_, name, _) in zip(children, cases):
             self.waits(child, *CALLS[name][1::-1])
             inspection = processes.look_at_process(processes.Kernel(), child.pid)
             self.assertEqual([stack.threads for stack in inspection.stacks], [{child.pid: [child.pid]}])
             numbers.append(self.next_call_of(child))
-        for child, number, (answer, name) in zip(children, numbers, cases):
+        for child, number, (answer, name, expected) in zip(children, numbers, cases):
             with self.subTest(f"{name} {answer:#x}"):
-                self.assertEqual(number, goes_on_as(name))
+                self.assertEqual(number, expected)
                 self.ends(child, name)
 
-    def test_filters_that_deny_restart_syscall(self):
-        """The call begins anew."""
-        cases = [(KILL_PROCESS, name) for name in RESTARTED]
-        cases += [(answer, name) for answer in DENIALS[1:] for name in ("nanosleep", "nanosleep of i386")]
-        self.go_on(cases, lambda name: CALLS[name][0])
-
-    def test_filters_that_allow_restart_syscall(self):
-        """It goes on with the time that is left, as it does where nobody looks."""
-        cases = [(ALLOW, name) for name in RESTARTED] + [(LOG, "nanosleep")]
-        self.go_on(cases, lambda name: RESTART_32 if "i386" in name else RESTART)
-
-    def test_calls_that_do_without_it(self):
-        self.go_on([(KILL_PROCESS, name) for name in BEGIN_ANEW], lambda name: CALLS[name][0])
-        self.go_on([(KILL_PROCESS, name) for name in END], lambda name: 0)
-
-    def waiting(self, answer=KILL_PROCESS, name="nanosleep", before=""):
-        """A child that waits in a call under a filter that answers restart_syscall so."""
+    def waiting(self, answer=KILL_PROCESS, before="pass"):
+        """A child that sleeps under a filter that answers restart_syscall so."""
         child = self.child([denying(answer)])
-        if before:
-            self.do(child, before)
-        self.waits(child, *CALLS[name][1::-1])
+        self.do(child, before)
+        self.waits(child, *CALLS["nanosleep"][1::-1])
         return child
 
     def test_the_tools(self):
