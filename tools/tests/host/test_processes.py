@@ -51,16 +51,13 @@ class Asked(Case):
             self.assertEqual(kernel.let_go(), [given])
 
     def test_threads_that_come_or_go_meanwhile(self):
-        for listings, threads in (([(7,), (7, 8), (7, 8, 9), (7, 8, 9)], [7, 8, 9]), ([(7, 8), (7,)], [7])):
-            kernel = FakeKernel([OLDEST], listings=listings)
+        """If one ends before it is read, the others are, and one that is begun meanwhile."""
+        for fails, listings, threads in (({}, [(7,), (7, 8), (7, 8, 9), (7, 8, 9)], [7, 8, 9]),
+                                         ({}, [(7, 8), (7,)], [7]),
+                                         ({(GET, 8): errno.ESRCH}, [(7, 8), (7, 8), (7, 9)], [7, 9])):
+            kernel = FakeKernel([OLDEST], fails, listings=listings)
             self.assertEqual(self.look(kernel).stacks[0].threads, {7: threads})
             self.assertEqual(kernel.held, set())
-
-    def test_a_thread_that_ends_before_it_is_read(self):
-        """The others are read, and one that is begun meanwhile, too."""
-        kernel = FakeKernel([OLDEST], {(GET, 8): errno.ESRCH}, listings=[(7, 8), (7, 8), (7, 9)])
-        self.assertEqual(self.look(kernel).stacks[0].threads, {7: [7, 9]})
-        self.assertEqual(kernel.held, set())
 
     def test_threads_that_never_stop_coming(self):
         kernel, count = FakeKernel([OLDEST]), itertools.count(8)
@@ -107,7 +104,6 @@ class Asked(Case):
         kernel = FakeKernel([OLDEST], {SEIZE: errno.EPERM})
         kernel.own_status["CapEff"] = f"{1 << hold.CAP_SYS_ADMIN:x}"
         self.refused(kernel, "without CAP_SYS_PTRACE: run this as root")
-        self.refused(FakeKernel([OLDEST], {SEIZE: errno.ESRCH}, listings=[(7,), ()]), "process 7 has ended")
 
     def test_a_thread_that_executes_a_program(self):
         """The kernel refuses to trace one that ends or executes a program, or that another tool looks at, for a moment:
@@ -118,7 +114,6 @@ class Asked(Case):
             self.assertEqual([stack.threads for stack in self.look(kernel).stacks], [{7: [7]}])
             self.assertEqual([request for request, _, _ in kernel.asked],
                              [SEIZE] * count + [INTERRUPT, GET, GET, GET, DETACH])
-        self.refused(FakeKernel([OLDEST], {SEIZE: errno.EPERM}), "run this as root")
 
     def test_threads_that_another_tool_looks_at(self):
         """None is traced before the first that has another tracer, so that of two tools one has all."""
@@ -188,8 +183,6 @@ class Asked(Case):
             kernel = FakeKernel([OLDEST], {GET: fails}, status=status)
             self.refused(kernel, says)
             self.assertEqual(kernel.let_go(), [0], says)
-        kernel = FakeKernel([OLDEST], {GET: errno.ESRCH}, listings=[(7,), ()])
-        self.refused(kernel, "process 7 has ended")
 
     def test_no_filter_at_all(self):
         for fails, status, is_strict in (({}, {}, False), ({GET: errno.EINVAL}, {"Seccomp": "0"}, False),
@@ -198,9 +191,11 @@ class Asked(Case):
             self.assertEqual([(stack.filters, stack.is_strict) for stack in inspection.stacks], [((), is_strict)])
 
     def test_the_process_ends_or_never_stops(self):
-        for fails, states in (({}, [0]), ({}, [signal.SIGKILL]), ({INTERRUPT: errno.ESRCH}, [0])):
-            kernel = FakeKernel([OLDEST], fails, states=states, listings=[(7,), ()])
+        for fails, state in (({}, 0), ({}, signal.SIGKILL), ({INTERRUPT: errno.ESRCH}, 0), ({SEIZE: errno.ESRCH}, 0),
+                             ({GET: errno.ESRCH}, STOPPED)):
+            kernel = FakeKernel([OLDEST], fails, states=[state], listings=[(7,), (7,), ()])
             self.assertEqual(self.text_of_error(processes.Unreadable, self.look, kernel), "process 7 has ended")
+            self.assertEqual(kernel.let_go(), [0] if GET in fails else [])
         kernel = FakeKernel([OLDEST], states=[None], status={"State": "D (disk sleep)"})
         self.assertEqual(self.text_of_error(processes.Unreadable, self.look, kernel, patience=0.01),
                          "process 7 didn't stop within 0.009 seconds: its state is D (disk sleep)")
