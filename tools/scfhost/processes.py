@@ -85,13 +85,14 @@ def process_of(kernel: Kernel, number: int) -> int:
     return int(process)
 
 
-def look_at_process(kernel: Kernel, process: int, thread: int | None = None, patience: float = PATIENCE,
+def look_at_process(kernel: Kernel, number: int, thread: int | None = None, patience: float = PATIENCE,
                     is_forced: bool = False) -> Inspection:
-    """Reads all threads of a process, or one of them."""
+    """Reads all threads of the process of this number, or one of them."""
+    process = process_of(kernel, number)
     if thread is not None and thread not in kernel.threads_of(process):
         raise Unreadable(f"process {process} has no thread {thread}")
-    inspection = look(kernel, lambda: {number: process for number in kernel.threads_of(process)
-                                       if thread in (None, number)}, patience, is_forced)
+    inspection = look(kernel, lambda: {listed: process for listed in kernel.threads_of(process)
+                                       if thread in (None, listed)}, patience, is_forced)
     if not inspection.stacks:
         raise Unreadable(f"{called(thread or process, process)} {inspection.passed_over.get(process, 'has ended')}")
     return inspection
@@ -118,12 +119,12 @@ def number_in(text: str) -> int:
     return int(text)
 
 
-def read_or_end(read: Callable[[], Any], has_force: bool = False, is_json: bool = False) -> Any:
+def read_or_end(read: Callable[[], Any], is_json: bool = False) -> Any:
     """The result of `read`; ends the tool where that fails, with an object where one is wanted, or by a signal."""
     try:
         return read()
     except Unreadable as error:
-        why = f"{error} (--force stops it)" if has_force and isinstance(error, Waiting) else str(error)
+        why = f"{error} (--force stops it)" if isinstance(error, Waiting) else str(error)
         if is_json:
             output.put_json({"status": program.TROUBLE, "verdict": None, "stacks": [], "why": output.escaped(why)})
         raise program.ToolError(why) from error

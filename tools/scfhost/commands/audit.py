@@ -111,7 +111,7 @@ def main():
     options.check()
     judges = audit.Judges(options)
     while True:
-        report = processes.read_or_end(lambda: audit.audit_machine(options, judges), is_json=given.json)
+        report = processes.read_or_end(lambda: audit.audit_machine(options, judges), given.json)
         if given.prometheus is not None:
             output.replace_file(given.prometheus, audit_output.metrics(report))
         if given.html is not None:

@@ -92,13 +92,9 @@ def write(named, folder):
 
 
 def of_process(options):
-    kernel = processes.Kernel()
-
-    def read():
-        process = processes.process_of(kernel, options.pid)
-        return process, processes.look_at_process(kernel, process, options.thread, is_forced=options.force)
-
-    process, inspection = processes.read_or_end(read, has_force=True)
+    inspection = processes.read_or_end(lambda: processes.look_at_process(
+        processes.Kernel(), options.pid, options.thread, is_forced=options.force))
+    (process,) = inspection.names
     program.say(*inspection.notes)
     stack, *others = inspection.stacks
     if others:

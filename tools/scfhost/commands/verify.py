@@ -219,13 +219,13 @@ def main():
     request = request_of(options, kernel, named)
 
     def read():
-        process = processes.process_of(kernel, options.pid)
         if not options.container:
-            return None, processes.look_at_process(kernel, process, is_forced=options.force)
-        container = processes.container_of(kernel, process)
+            return None, processes.look_at_process(kernel, options.pid, is_forced=options.force)
+        container = processes.container_of(kernel, processes.process_of(kernel, options.pid))
         return container, processes.look_at_container(kernel, container, is_forced=options.force)
 
-    container, inspection = processes.read_or_end(read, has_force=True, is_json=options.json)
+    container, inspection = processes.read_or_end(read, options.json)
+    blocks = verify.blocks(inspection, request)
     others = None if container is None else containers.others_note(kernel, container)
     verification = verify.Verification(inspection, request, others)
     remarks = [*request.remarks, *other_runtime(options, kernel, verification)]

@@ -27,10 +27,10 @@ def read(words: Sequence[str], options: Any = None) -> list[Filter] | ProfileInp
     if is_process(word):
         from scfhost import processes  # pylint: disable=import-outside-toplevel
 
-        kernel, number = processes.Kernel(), processes.number_in(word.removeprefix(inputs.PROCESS))
+        number = processes.number_in(word.removeprefix(inputs.PROCESS))
         is_forced, is_json = (getattr(options, name, False) for name in ("force", "json"))
-        given = processes.read_or_end(lambda: processes.look_at_process(
-            kernel, processes.process_of(kernel, number), is_forced=is_forced), True, is_json)
+        given = processes.read_or_end(
+            lambda: processes.look_at_process(processes.Kernel(), number, is_forced=is_forced), is_json)
         for at, stack in enumerate(given.stacks):
             for bpf_filter in stack.named:
                 inputs.keep(f"{word} stack {at} {bpf_filter.name}", bpf_filter.data)

@@ -286,8 +286,7 @@ class Real(Confined):
     """On this machine's kernel."""
 
     def look(self, child, **settings):
-        kernel = processes.Kernel()
-        return processes.look_at_process(kernel, processes.process_of(kernel, child.pid), patience=PATIENCE, **settings)
+        return processes.look_at_process(processes.Kernel(), child.pid, patience=PATIENCE, **settings)
 
     @staticmethod
     def trying(child, *words):

@@ -219,7 +219,7 @@ class FakeKernel:
         self.states = list(states)
         self.listings = list(listings)
         self.status = {"Seccomp": "2", "State": "S (sleeping)", "Tgid": "7", **(status or {})}
-        self.own_status = {"Seccomp": "0", "CapEff": "000001ffffffffff"}
+        self.own_status = {"Seccomp": "0", "CapEff": "000001ffffffffff", "Tgid": str(os.getpid())}
         self.asked = []
         self.held = set()
         self.is_proc_ours = self.is_root_the_first = lambda: True
