@@ -514,18 +514,13 @@ ANOTHER = """#!/bin/sh
 class OwnUnits(Systemd):
     """Units of a real systemd."""
 
+    def start(self, *names):
+        """Starts units, until each has its process."""
+        self.assertEqual(self.on("systemctl", "start", *names)[0], 0)
+
     def pid_of(self, unit):
         """The unit's process, seen from outside."""
-        inner = self.on("systemctl", "show", "--property=MainPID", "--value", unit)[1].strip()
-        for name in filter(str.isdigit, os.listdir("/proc")) if inner not in ("", "0") else ():
-            try:
-                status = text_of(f"/proc/{name}/status")
-                is_ours = os.path.basename(self.cgroup) in text_of(f"/proc/{name}/cgroup")
-            except OSError:
-                continue
-            if is_ours and re.search(rf"^NSpid:.*\t{inner}$", status, re.M) and "\nName:\tsleep\n" in f"\n{status}":
-                return name
-        return None
+        return text_of(self.cgroup, "system.slice", unit, "cgroup.procs").strip()
 
 
 class RealSystemd(OwnUnits):
@@ -535,8 +530,7 @@ class RealSystemd(OwnUnits):
 
     def test_units(self):
         for unit in ("scf-allow.service", "scf-deny.service"):
-            self.assertEqual(self.on("systemctl", "start", "--no-block", unit)[0], 0)
-            self.assertTrue(self.starts(lambda unit=unit: self.pid_of(unit)), unit)
+            self.start(unit)
             out = self.of_status(0, self.on(tool("unit-profile"), unit))
             profile = self.file("profile.json", out)
             actual = self.run_tool("verify-process", self.pid_of(unit), profile)
@@ -563,10 +557,6 @@ class OtherSettings(Audited, OwnUnits):
         super().setUp()
         version = self.on("systemctl", "show", "--property=Version", "--value")[1].strip()
         self.skip_if(not unit_restrictions.is_modelled(version), f"what systemd {version} denies isn't known")
-
-    def start(self, *names):
-        """Starts units, until each has its process."""
-        self.assertEqual(self.on("systemctl", "start", *names)[0], 0)
 
     def test_profiles(self):
         """On each architecture that a unit permits, the process answers as the profile says."""
