@@ -232,17 +232,11 @@ class Systemd(Machine):
         self.boot = subprocess.Popen(["sh", "-c", BOOT, "boot", self.cgroup, f"{self.folder}/units", SYSTEMD],
                                      stdin=subprocess.DEVNULL, stdout=subprocess.DEVNULL, stderr=subprocess.DEVNULL)
         self.addCleanup(self.end)
-        if not self.starts(lambda: self.on("systemctl", "show", "--property=Version")[0] == 0):
-            self.skipTest("systemd can't be the first process of namespaces here")
-
-    def starts(self, holds):
-        """Whether something holds soon, while systemd runs."""
         until = time.monotonic() + 20
-        while time.monotonic() < until and self.boot.poll() is None:
-            if holds():
-                return True
+        while self.on("systemctl", "show", "--property=Version")[0]:
+            if time.monotonic() > until or self.boot.poll() is not None:
+                self.skipTest("systemd can't be the first process of namespaces here")
             time.sleep(0.05)
-        return False
 
     def made_cgroup(self):
         mounts = [line.split()[1] for line in text_of("/proc/mounts").splitlines() if line.split()[2] == "cgroup2"]
