@@ -94,8 +94,7 @@ class UnitSettings:
         return f"the rules of {names} are known of systemd {unit_restrictions.VERSIONS}, and this is {version}"
 
     def answer_of(self, name: str | None, first: str | None = None) -> Answer:
-        """The lists' answer to a syscall by this name; None stands for one that no list names. A list that has the name
-        `first` goes by that."""
+        """The lists' answer to a syscall, whose name is None if none has it. A list that has `first` goes by that."""
         if self.filter is not None:
             listed_name = first if first in self.filter.calls else name
             errno_answer = self.filter.calls.get(listed_name) if listed_name is not None else None
@@ -251,8 +250,7 @@ def assignments_of(text: str, section: str, setting: str) -> Iterator[str]:
 
 
 def files_of(shown: dict[str, str]) -> Iterator[str]:
-    """The texts of the files from which systemd read a unit: its own file, and the drop-ins in their order. Raises
-    ValueError, as does `denied_by`, where they can't be known."""
+    """The texts of a unit's files as systemd read them: its own, then drop-ins. Raises ValueError, as `denied_by`."""
     import shlex  # pylint: disable=import-outside-toplevel
 
     # (a tool in a container of the machine has another root; only root may look, and others aren't in one with the

@@ -290,13 +290,6 @@ class VerifyProcess(Confined):
         self.runs_on(child)
 
     @here
-    def test_all_threads_alike(self):
-        child = self.child([refusing(MOUNT)], [refusing(MOUNT)])
-        status, out = self.verify(child, refuses("mount"))
-        self.assertEqual((status, out.count("same\n"), comments(out)[-1]),
-                         (0, 1, f"{self.called(child)} has 1 filter, of 9 instructions, in each of its 2 threads"))
-
-    @here
     def test_the_worst_status(self):
         """Differs before unfinished before same; the blocks in that order, and what was skipped once."""
         many = load(16) + b"".join(jeq(number, 59 - number, 0) for number in range(60)) + ret(ALLOW)
@@ -349,10 +342,12 @@ class VerifyProcess(Confined):
 
     @here
     def test_named_calls_alone(self):
-        """A call that no name has makes no difference."""
-        child = self.child([refusing(MOUNT, 0x3FFFFFFF)])
+        """A call that no name has makes no difference. All threads are alike here, and are counted."""
+        child = self.child(*[[refusing(MOUNT, 0x3FFFFFFF)]] * 2)
         self.assertEqual(self.verify(child, refuses("mount"))[0], 1)
-        self.begins(0, "same", self.verify(child, refuses("mount"), "--calls"))
+        out = self.begins(0, "same", self.verify(child, refuses("mount"), "--calls"))
+        self.assertEqual((out.count("same\n"), comments(out)[-1]),
+                         (1, f"{self.called(child)} has 1 filter, of 10 instructions, in each of its 2 threads"))
 
     @here
     def test_json(self):
