@@ -67,14 +67,14 @@ def without_octal(field: bytes) -> bytes:
     return ESCAPED_BYTE.sub(lambda match: bytes([int(match[1], 8)]), field)
 
 
-def _group_mounts(process: int | str) -> Iterator[tuple[bytes, list[bytes], bytes, bytes]]:
-    """The control group mounts that a process sees (proc_pid_mountinfo(5)): type, options, mounted group, and where."""
+def _group_mounts(process: int | str) -> Iterator[tuple[list[bytes], bytes, bytes]]:
+    """The control group mounts that a process sees (proc_pid_mountinfo(5)): hierarchies, mounted group, and where."""
     for line in contents(f"/proc/{process}/mountinfo").split(b"\n"):
         fields, _, source = line.partition(b" - ")
         kind, _, options = source.partition(b" ")
         if kind in (b"cgroup", b"cgroup2") and fields.count(b" ") > 4:
             root, place = map(without_octal, fields.split(b" ")[3:5])
-            yield kind, options.rpartition(b" ")[2].split(b","), root, place
+            yield [b""] if kind == b"cgroup2" else options.rpartition(b" ")[2].split(b","), root, place
 
 
 def _namespace_files(process: int, kind: str) -> Iterator[int]:
@@ -195,13 +195,12 @@ class Kernel:
 
     def mounted_groups(self, process: int) -> list[bytes]:
         """The roots of the control group mounts that a process sees."""
-        return [root for _, _, root, _ in _group_mounts(process)]
+        return [root for _, root, _ in _group_mounts(process)]
 
     def group_folder(self, hierarchy: str, path: bytes) -> tuple[bytes, bytes] | None:
         """Where a control group of a hierarchy is mounted here: the mount's folder, and the path below."""
-        for kind, options, root, place in _group_mounts("self"):
-            if kind == (b"cgroup" if hierarchy else b"cgroup2") and (not hierarchy or hierarchy.encode() in options) \
-                    and (path + b"/").startswith(root.rstrip(b"/") + b"/"):
+        for hierarchies, root, place in _group_mounts("self"):
+            if hierarchy.encode() in hierarchies and (path + b"/").startswith(root.rstrip(b"/") + b"/"):
                 return place, path[len(root.rstrip(b"/")):]
         return None
 
