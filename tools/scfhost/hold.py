@@ -35,8 +35,6 @@ HELD_FOR_ONE = 0.2
 SURE_TIMES, SURE_AFTER, SURE_SOON, MOST_VAIN_WAITS = 10, 3, 0.5, 4
 # How often threads are waited for while PTRACE_SEIZE waits, and are listed again while none is held, in seconds.
 PAUSE, PAUSE_UNHELD = 0.005, 0.02
-# The state of a stopped thread, as waitpid(2) gives it.
-STOPPED = 0x7F
 # What helps where a right is missing.
 AS_ROOT = "run this as root, outside of containers"
 
@@ -157,8 +155,8 @@ class Hold:
             time.sleep(PAUSE)
             with self.lock:
                 for thread in {*self.seized, *self.stopping, *self.leaving, *self.stopped}:
-                    before = self.states.get(thread, STOPPED)
-                    state = self.kernel.wait(thread) if os.WIFSTOPPED(before) else None
+                    may_change = thread not in self.states or os.WIFSTOPPED(self.states[thread])
+                    state = self.kernel.wait(thread) if may_change else None
                     if state is not None:
                         self.states[thread] = state
 
