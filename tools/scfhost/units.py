@@ -106,11 +106,6 @@ class UnitSettings:
         return Answer("LOG", 0) if is_logged else ALLOW
 
 
-def refusal_of(text: str) -> Answer:
-    """The answer of a value of SystemCallErrorNumber=."""
-    return KILL_PROCESS if text in KILL_NUMBERS else answer_of_errno(text)
-
-
 def architectures_of(text: str) -> list[str]:
     """The architectures of a profile by SystemCallArchitectures=: the native one, and those that it names."""
     words = text.split()
@@ -323,7 +318,7 @@ def settings_in(shown: dict[str, str], unit: str, reader: ListReader) -> UnitSet
         else:
             call_list.calls["write"] = None
             known_names = reader.known_calls()
-    settings = UnitSettings(call_list, refusal_of(shown.get("SystemCallErrorNumber", "")),
+    settings = UnitSettings(call_list, answer_of_errno(shown.get("SystemCallErrorNumber", ""), KILL_NUMBERS),
                             architectures_of(shown.get("SystemCallArchitectures", "")),
                             reader.shown(shown.get("SystemCallLog", "~")), unit_restrictions.set_in(shown), version,
                             known_names)
@@ -383,7 +378,7 @@ def _settings_of(name: str | None, options: Any, say: Callable[[str], None]) -> 
             reader.is_call = libseccomp.Library().knows
         except program.ToolError as why:
             say(f"names that libseccomp doesn't know can't be left out, as systemd may do: {why}")
-        settings = UnitSettings(reader.assigned(options.set), refusal_of(options.errno or ""),
+        settings = UnitSettings(reader.assigned(options.set), answer_of_errno(options.errno or "", KILL_NUMBERS),
                                 architectures_of(options.unit_architectures or ""),
                                 reader.assigned(options.log or (), ()))
     reader.tell_unknown()

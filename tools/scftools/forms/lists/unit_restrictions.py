@@ -51,9 +51,9 @@ class SettingError(program.ToolError):
     """A setting that systemd prints, or that is given in its place, isn't as systemd.exec(5) says."""
 
 
-def answer_of_errno(text: str) -> Answer:
-    """The answer of an errno by its name or its number, or of the word `kill`."""
-    if text in (KILL_NUMBERS[0], "kill"):
+def answer_of_errno(text: str, kills: Sequence[str] = (KILL_NUMBERS[0], "kill")) -> Answer:
+    """The answer of an errno by its name or its number, or of a text that kills."""
+    if text in kills:
         return KILL_PROCESS
     number = getattr(errno, text, ERRNO_NUMBERS.get(text)) if re.fullmatch("E[A-Z0-9]+", text) else None
     if number is None and len(text) <= 16 and ERRNO_NUMBER.fullmatch(text):
