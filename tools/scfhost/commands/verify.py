@@ -225,7 +225,6 @@ def main():
         return container, processes.look_at_container(kernel, container, is_forced=options.force)
 
     container, inspection = processes.read_or_end(read, options.json)
-    blocks = verify.blocks(inspection, request)
     others = None if container is None else containers.others_note(kernel, container)
     verification = verify.Verification(inspection, request, others)
     remarks = [*request.remarks, *other_runtime(options, kernel, verification)]
