@@ -59,8 +59,7 @@ def look_for_signals() -> None:
         raise Interrupted(came.si_signo)
 
 
-def run_in_child(work: Callable[..., Any], seconds: float,
-                 receive: Callable[[Any], float | None] | None = None) -> Any:
+def run_in_child(work: Callable[..., Any], seconds: float, receive: Callable[[Any], float | None] | None = None) -> Any:
     """The result or exception of a function run in a child process; it calls `look_for_signals` now and then. With
     `receive` the function is given another one, by which it sends values: each is received, however the child ends.
     Where `receive` returns seconds, the child has these from then on."""

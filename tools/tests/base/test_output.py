@@ -6,7 +6,7 @@ import subprocess
 import sys
 import unittest
 
-from support.common import CORE, PROGRAM, SCF, X86_64, Case, completed, filter_of, insn, profile_of, text_of, tool
+from support.common import CORE, PROGRAM, SCF, X86_64, Case, completed, filter_of, insn, profile_of, tool
 from support.on_parts import (ALL, ALLOW, ARCH_GATE, NO_TABLE, OnProgram, a_filter, a_table, assembled, beside, bundle,
                               long_filter, ran)
 from scftools.base import output
@@ -169,12 +169,6 @@ class Failing(Case):
                 done = completed([tool(words[0]), *words[1:]], stdout=gone)
             actual = [line for line in done.stderr.decode().split("\n") if not line.startswith("compile: ")]
             self.assertEqual((done.returncode, actual), (-13, [""]), words)
-
-    def test_head(self):
-        done = completed(["sh", "-c", '{ "$0" "$1" "$2"; echo $? >status; } | head -n1', tool("compare"), self.same,
-                          self.profile], cwd=self.folder)
-        self.assertEqual((done.stdout, done.stderr), (b"same\n", b""))
-        self.assertIn(text_of(self.folder, "status"), ("0\n", "141\n"))
 
     def test_a_full_output(self):
         for words in self.each():

@@ -235,14 +235,6 @@ class Dispatch(Case):
         self.assertEqual(self.scf("help", env=env), (0, LIST, ""))
         self.assertEqual(self.scf("lnt", env=env), (2, "", "scf: 'lnt' isn't a command: see scf help\n"))
 
-    def test_through_links_and_from_any_folder(self):
-        os.symlink(SCF, os.path.join(self.folder, "link"))
-        os.symlink("link", os.path.join(self.folder, "other"))
-        env = {**os.environ, "PATH": f"{self.folder}:{os.environ['PATH']}"}
-        for word in ("./other", "link", "other"):
-            self.assertEqual(self.run_words([word, "check", "f.bpf"], env=env), (0, "accepted 9\n", ""))
-        self.assertEqual(self.run_words(["sh", "scf", "check", self.filter], cwd=TOP), (0, "accepted 9\n", ""))
-
     def test_color(self):
         self.file("q.json", profile_of())
         green = "\x1b[1;32msame\x1b[0m\n"

@@ -7,9 +7,8 @@ import shutil
 import stat
 import subprocess
 import tempfile
-import unittest
 
-from support.common import TOOLS, TOP, Case, bytes_of, completed, filter_of, profile_of, text_of
+from support.common import TOOLS, TOP, Case, bytes_of, filter_of, profile_of, text_of
 
 MODULES = sorted(os.path.relpath(path, os.path.join(TOP, "tools"))
                  for path in glob.glob(os.path.join(TOP, "tools", "scf*", "**", "*.py"), recursive=True))
@@ -145,13 +144,6 @@ class Install(Case):
         hook = json.loads(text_of(f"{self.prefix}/share/scf/hooks.d/scf.json"))
         printed = self.run_installed("scf-oci-hook", "--print-hook", *hook["hook"]["args"][1:])[1]
         self.assertEqual(json.loads(printed), hook)
-
-    @unittest.skipUnless(shutil.which("man"), "there is no man here")
-    def test_man_finds_the_pages(self):
-        self.installed()
-        for name in ("scf", *(f"scf-{item}" for item in TOOLS)):
-            done = completed(["man", "-M", os.path.join(self.prefix, "share", "man"), "-w", name])
-            self.assertEqual(done.returncode, 0, done.stderr)
 
     def test_every_user_may_use_it_whatever_the_umask(self):
         for at, folders, names in os.walk(os.path.join(self.once, "lib")):

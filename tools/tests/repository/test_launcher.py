@@ -136,6 +136,9 @@ logic=proved functions=2 sum=dac8208d650f15bf incremental=trusted
         os.makedirs(os.path.join(self.folder, "links", "scf"))
         os.symlink("../../tree/scf", os.path.join(self.folder, "links", "scf", "far"))
         os.symlink("links/scf/far", os.path.join(self.folder, "near"))
-        self.assertEqual(self.run_words([os.path.join(self.folder, "near"), "dis"], env=self.env), (0, "one dis\n", ""))
+        for words in ([os.path.join(self.folder, "near")], ["./near"], ["sh", os.path.join("tree", "scf")]):
+            self.assertEqual(self.run_words([*words, "dis"], env=self.env), (0, "one dis\n", ""))
+        env = {**self.env, "PATH": f"{self.folder}:{self.env['PATH']}"}
+        self.assertEqual(self.run_words(["near", "dis"], env=env), (0, "one dis\n", ""))
         status, out, _ = self.run_words(["sh", "-c", "CDPATH=/ sh tree/build && tree/scf dis"], env=self.env)
         self.assertEqual((status, out), (0, "one dis\n"))
