@@ -296,8 +296,8 @@ def ask_each(works: Sequence[Work], turns: Iterable[tuple[int, float]], receive:
 
 
 def checked(value: Any, form: Any) -> Any:
-    """A value that has this form: a type, None, several forms of which one fits, a list of values of one form, or an
-    object with these members. Raises TypeError."""
+    """A value of this form: a type, None, one of several forms, a list of values of one, or an object with these
+    members. Raises TypeError."""
     if isinstance(form, tuple):
         for each in form:
             try:
@@ -320,8 +320,7 @@ class Budget:
     remaining: float
 
     def shares(self, items: Iterable[Any], most: float | None = None) -> Iterator[tuple[Any, float]]:
-        """Each of some things with the seconds that it has: no more than `most`, or than a child may take, and than
-        are left for each of those that are left."""
+        """Things with their seconds: at most `most`, or what a child may take, and an equal share of what is left."""
         waiting = list(items)
         for at, item in enumerate(waiting):
             began = time.monotonic()

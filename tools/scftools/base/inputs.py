@@ -12,8 +12,7 @@ from . import output, program
 
 # The most bytes of what scf reads: a filter of 4096 instructions, a profile, a table, the number of a stub, counts of
 # syscalls; and of what only the tools read: an engine's profile, a kernel header, a list of syscalls to try; an
-# assembler's text, and the lines of explain; an object that audit printed; what of a core holds its notes, for why; and
-# a container's state, for oci-hook.
+# assembler's text, and the lines of explain; an object that audit printed; a core's notes; and a container's state.
 LIMITS = {"bundle": 1 << 24, "filter": 1 << 15, "profile": 1 << 22, "table": 1 << 22, "stub": 1 << 10,
           "counts": 1 << 22, "engine's profile": 1 << 22, "header": 1 << 22, "list of syscalls": 1 << 16,
           "text": 1 << 24, "object": 1 << 24, "core": 1 << 24, "state": 1 << 20}
@@ -47,8 +46,7 @@ def why(name: str, kind: str, error: OSError) -> str:
 
 
 def read_input(name: str, kind: str, most: int | None = None) -> bytes:
-    """The bytes of an input (`-` is standard input): at most one more than its kind may have, or than `most`. Raises
-    ToolError if it can't be read."""
+    """An input's bytes (`-`: standard input), at most one more than its kind may have, or `most`. Raises ToolError."""
     data = b"".join(input_pieces(name, kind, (LIMITS[kind] if most is None else most) + 1))
     keep(name, data)
     return data

@@ -114,8 +114,7 @@ def place_of(text: str, path: Path) -> str | None:
 
 
 def where_in(text: str, at: int) -> str:
-    """In or after which member a character stands, as "in syscalls[3].args"; nothing at the top, or if that isn't
-    found."""
+    """The member that a character is in or after, as "in syscalls[3].args"; nothing at the top, or if none is found."""
     word = ""
     path: list[str | int] = []
     try:

@@ -73,8 +73,7 @@ def runs(numbers: Iterable[int]) -> list[tuple[int, int]]:
     return [(span[0], span[-1]) for span in spans]
 
 
-# Verdicts, and how other lines begin: green, red and yellow, and the tools' own lines faint (ECMA-48), where there is
-# colour.
+# The colours (ECMA-48) of verdicts, and of lines by how they begin; `# ` is a tool's own.
 GREEN, RED, YELLOW, FAINT = "1;32", "1;31", "1;33", "2"
 VERDICT_COLOURS = {**dict.fromkeys(("same", "no more", "no less"), GREEN), "unfinished": YELLOW, **dict.fromkeys(
     ("differs", "more", "less", "unconfined by configuration", "unconfined though configured"), RED)}

@@ -8,8 +8,7 @@ COMMANDS = ("compare", "diff", "surface", "decide", "list", "check", "lint", "co
             "why", "filters-of", "verify", "audit", "oci-hook", "help")
 OTHERS = {"bundle": "several files as one input, for standard input",
           "call-table": "a syscall table from kernel headers"}
-# Commands by the names that they had before, and the words that each stands for: a last one with a colon is put before
-# the names of inputs.
+# Commands by their earlier names, and the words that each stands for; one with a colon is put before inputs' names.
 ALIASES = {"answers": "surface --regions", "ask": "decide --as profile", "asm": "compile --as assembler",
            "compare-profiles": "diff --profiles", "dis": "list --plain", "explain": "help",
            "resolve-profile": "profile-of --as profile", "run": "decide --steps", "unit-profile": "profile-of unit:",

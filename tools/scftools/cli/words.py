@@ -61,8 +61,7 @@ def _object_name(text: str) -> str:
     return text
 
 
-# The options and arguments that several tools take; and first those without a value (`--all` is the old name of other
-# options, which stays for scripts).
+# What several tools take; first options without a value (`--all` is an old name of others, which stays for scripts).
 FLAGS = {
     **dict.fromkeys(("--all", "--architectures", "--left-out"), argparse.SUPPRESS),
     "--force": "also stop threads that wait for a seccomp supervisor, which then gets their syscalls a second time",

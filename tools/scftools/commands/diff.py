@@ -46,8 +46,7 @@ from ..report.compare_output import Judgement
 
 
 def side_of(path, options):
-    """What a word names: a process's filters, a filter, or a profile, as it is or as an engine or a runtime makes it;
-    and what is left out of the profile."""
+    """What a word names: filters, or a profile, as it is or as an engine or a runtime makes it, and what that lacks."""
     if operands.is_process(path) and not options.profiles:
         return operands.read([path], options), []
     data = profile_inputs.read_text(path, "engine's profile" if options.is_made else None)

@@ -113,8 +113,7 @@ def lacking(process):
 
 
 def of_process(options, files, table):
-    """The records of a process, those of an earlier one with its number left out, and files; without any the filters
-    that it has, if it runs."""
+    """The records of a process, not of an earlier one by its number, and files; without any its filters, if it runs."""
     begun = started(options.pid)
     since = None if begun is None else begun - TOLERANCE
     # (auditd takes the kernel's records where it runs)

@@ -217,8 +217,7 @@ class Texts(MeasuredCase):
             self.ends("objects", tool(words[0]), *words[1:], name)
 
     def test_a_bundle_for_the_program(self):
-        """What takes more memory than the launcher gives is a fault, and the program by itself answers it, as the page
-        on faults says."""
+        """What takes more memory than the launcher gives is a fault, and the program alone answers it (FAULTS.md)."""
         text = PROFILES["objects"]
         bundle = self.file("bundle", b"profile %d\n%btable 7\nread 0\n" % (len(text), text))
         self.assertEqual(self.ends("objects", *CORE, "compile", given=bundle), 3)

@@ -113,9 +113,8 @@ def filled(head, item_of, tail, size=TEXT // 2):
 
 
 ALLOWS, DENIES = b'{"defaultAction":"SCMP_ACT_ALLOW",', b'{"defaultAction":"SCMP_ACT_ERRNO",'
-# Profiles of awkward shapes, the tools that read them, and what lint prints of each. Objects of nothing are a whole
-# profile long: each was an object of Python with several others. Of arrays as many would take scf more memory than the
-# tools give it.
+# Profiles of awkward shapes, the tools that read them, and what lint prints of each. Empty objects are a whole profile
+# long: each was several objects of Python. Of arrays as many would take scf more memory than the tools give it.
 SHAPES = {
     "a name of two million line ends": (
         DENIES + b'"syscalls":[{"names":["read","' + b"\\n" * 2000000 + b'"],"action":"SCMP_ACT_ALLOW"}]}',

@@ -8,8 +8,7 @@ from scftools.model import bundles
 
 class Bundle(Case):
     def test_a_bundle_is_compared_over_all_records_and_files_are_not(self):
-        """As --help says: this filter denies i386's syscalls by another answer than the profile, which doesn't name
-        i386."""
+        """As --help says: this filter denies i386's syscalls by another answer than the profile, which has no i386."""
         allows = self.file("f.bpf", filter_of([0], foreign=0x00050001))
         profile = self.file("p.json", profile_of("read"))
         self.assertIn("can be `same` by files and `differs` by a bundle", self.run_tool("bundle", "--help")[1])

@@ -426,8 +426,7 @@ class Completion(Case):
         return mock.patch.dict(os.environ, PATH=f"{self.folder}:{os.environ['PATH']}")
 
     def test_bash(self):
-        """Commands, options, and their values: constants, capabilities, lists, choices, processes, files; also of
-        the commands scf-NAME."""
+        """Commands, options, and their values: constants, capabilities, lists, choices, processes, units and files."""
         self.assertEqual(self.completed("scf", ""), {*TOOLS})
         self.assertEqual(self.completed("scf", "help", "compa"), {"compare", "compare-profiles"})
         self.file("a file.bpf", b"")

@@ -20,8 +20,7 @@ STATUSES = {"Refused": 1, "CommandLine": 2, "Failed": 3}
 
 
 def fault_rows():
-    """The faults of scf_tool's definition: for each (source, kind) their numbers in scf.h, or 0, the names of the
-    numbers behind them, and the status."""
+    """scf_tool's faults: for each (source, kind) the numbers in scf.h, or 0, the names of its own, and the status."""
     text = text_of(TOP, "crates", "scf_tool", "specs", "Faults.antt")
     for word, name in re.findall(r'^(\w+) = (\(codes "\w+", \d+\))$', text, re.M):
         text = re.sub(rf"\b{word}\b", name, text)

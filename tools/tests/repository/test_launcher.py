@@ -7,8 +7,7 @@ import subprocess
 
 from support.common import PATIENCE, TOP, Case, comes, text_of
 
-# Notes where and how it was asked, and prints what it is told. A program that it builds, and runs, prints the source
-# and its words.
+# Notes where and how it was asked, and prints what it is told; a program that it builds prints its source and words.
 RT = """#!/bin/sh
 echo "${PWD##*/} $*" >>"$ASKED"
 case ${PWD##*/} in ${PROVES-}) printf '%s' "${PRINTS-}" ;; esac

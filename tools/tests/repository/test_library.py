@@ -563,8 +563,7 @@ class Alike(Case):
         return NAMES if self.random.randrange(4) else self.changed(NAMES)
 
     def cases(self):
-        """Words of the program and its input, and what the library does instead: a function of its module that makes
-        the printed line and the status."""
+        """The program's words and input, and a function of the library's module that makes the same line and status."""
         pick = self.random
         for kind in itertools.cycle(("check", "run", "path", "dis", "asm", "decide", "compile", "ask", "compare",
                                      "beside", "calls", "answers", "compare", "beside", "compile", "ask", "compare",
@@ -613,8 +612,7 @@ class Alike(Case):
         return ["decide", *words], b"".join(part("filter", it) for it in filters), made
 
     def several(self):
-        """A profile and tables of some architectures, in the program's order: the parts, and the same for the
-        module."""
+        """A profile and tables of some architectures, in the program's order: the parts, and that for the module."""
         kinds = {"X86_64": "table", "X86": "table-x86", "X32": "table-x32", "ARM": "table-arm"}
         profile = self.changed(self.random.choice((SEVERAL, SEVERAL, CONDITIONS)))
         names = self.random.sample(list(kinds)[:self.random.choice((3, 3, 4))], self.random.randrange(1, 4))
