@@ -1,6 +1,5 @@
 """tools/check, tools/compile and tools/run; and what the tools have in common: several syscalls at once, JSON, the
 files of a stack that are named, names that no syscall has, and the Python that runs them."""
-import glob
 import json
 import os
 import re
@@ -344,12 +343,6 @@ class Programs(Case):
                   "print(*sorted(late & set(sys.modules)))")
         done = self.run_words([sys.executable, "-IS", "-c", script, os.path.join(TOP, "tools")])
         self.assertEqual(done, (0, "\n", ""))
-
-    def test_each_module_says_in_its_first_line_what_it_has(self):
-        for path in glob.glob(os.path.join(TOP, "tools", "scf*", "**", "*.py"), recursive=True):
-            with open(path, encoding="utf-8") as file:
-                first = next(line for line in file if not line.startswith("#!"))
-            self.assertRegex(first, r'^"""\w.{20}', path)
 
     def test_python3_minimal(self):
         starts = self.file("lacking.py", LACKING)

@@ -18,6 +18,7 @@ from support.common import (ALLOW, EPERM, I386, KILL_PROCESS, TOP, X32, X86_64, 
                             gate, insn, jeq, jge, load, part, profile_of, ret, text_of)
 from support.on_parts import CLONE_BY_AND, assembled
 from support.stand_in import StandIn
+from repository.test_documents import rows
 
 LIBRARY = os.path.join(TOP, "library")
 OUT = os.path.join(LIBRARY, "out")
@@ -27,7 +28,6 @@ CALLS = {f"scf_{name}" for name in ("check", "run", "trace", "decide", "assemble
 # The version of scf that brought each call, which its symbol has.
 BROUGHT = {"SCF_0.1": CALLS}
 STRICT = ["-Wall", "-Wextra", "-Wpedantic", "-Werror", "-Wno-unused-function", "-Wno-unused-variable"]
-LINES = re.compile(r"`fault ([\w|]+) (\w+)((?: \w+ N)*)( \[entry N\])?`")
 
 
 def python_module(folder=OUT):
@@ -93,15 +93,6 @@ def numbers_of_cpp():
     enums = re.findall(r"enum class (\w+) : std::uint32_t {\s+(\w+)( = 1)?(.*?)\s};", text_of(LIBRARY, "scf.hpp"), re.S)
     return {name: plain(zip([first, *re.findall(r"\w+", rest)], itertools.count(1 if one else 0)))
             for name, first, one, rest in enums if name != "status"}
-
-
-def fault_lines():
-    """The faults of docs/FAULTS.md that the library may have: for a source and a kind, the names of the numbers."""
-    sources = {name.lower() for name in header_numbers("SOURCE_")}
-    lines = " ".join(re.findall(r"^- (`fault .*)$", text_of(TOP, "docs", "FAULTS.md"), re.M))
-    return {(source, kind): numbers.replace(" N", "").split() or (["entry"] if entry else [])
-            for alternatives, kind, numbers, entry in LINES.findall(lines)
-            for source in alternatives.split("|") if source in sources}
 
 
 class Built(Case):
@@ -185,16 +176,14 @@ class Interface(Built):
         self.assertEqual(len(lines), 16)
 
     def test_each_fault_has_the_text_of_the_page(self):
-        page = re.findall(r"^- (`fault .*)\n  (.*)$", text_of(TOP, "docs", "FAULTS.md"), re.M)
-        sentences = {(source, kind): sentence.replace("`", "") for lines, sentence in page
-                     for alternatives, kind, _, _ in LINES.findall(lines) for source in alternatives.split("|")}
-        scf = python_module()
-        for (source, kind), names in fault_lines().items():
+        scf, sources = python_module(), {name.lower() for name in header_numbers("SOURCE_")}
+        rows_of_library = {key: row for key, row in rows().items() if key[0] in sources}
+        for (source, kind), (names, sentences) in rows_of_library.items():
             numbers = (7, 8, 9)[:len(names)] + (0,) * (3 - len(names))
             fault = scf.Refused(scf.Source[source.upper()], scf.Kind[snake(kind)], numbers)
             line = " ".join(["fault", source, kind, *(it for name, number in zip(names, numbers)
                                                       for it in (name, str(number)))])
-            self.assertEqual(str(fault), f"{line}\n{sentences[source, kind]}")
+            self.assertEqual(str(fault), f"{line}\n{sentences[0]}".replace("`", ""))
 
     def test_the_numbers_of_the_bindings_are_those_of_the_header(self):
         header = numbers_of_header()

@@ -121,6 +121,10 @@ class Modules(unittest.TestCase):
                     module = importlib.import_module(called[node.value.id])
                     self.assertTrue(hasattr(module, node.attr), f"{name}, line {node.lineno}: {ast.unparse(node)}")
 
+    def test_each_says_in_its_first_line_what_it_has(self):
+        for name in modules():
+            self.assertRegex(ast.get_docstring(parsed(name)), r"\A\w.{20}", name)
+
     def test_scf_is_run_in_one_module(self):
         for name in set(modules()) - {"scftools.ask.client", "scftools.logs.tracing"}:
             self.assertNotIn("posix_spawn", ast.unparse(parsed(name)), name)
