@@ -11,20 +11,11 @@ import unittest
 from unittest import mock
 
 from support.common import (CORE, PROGRAM, SCF, TABLE, TOOLS, TOP, Case, bytes_of, completed, filter_of, for_developers,
-                            jeq, load, part, profile_of, ret, source_of, text_of)
+                            jeq, load, module, part, profile_of, ret, text_of)
 from support.confined import OLDEST, Confined, here
 from scftools.cli import commands
 
-
 LIST = text_of(TOP, "tables", "commands")
-COMMANDS = re.findall(r"(?m)^  ([a-z-]+) +(\S.*)$", LIST)
-
-
-def examples_of(name):
-    """The examples in a tool's docstring."""
-    return re.findall(r"(?m)^    (scf .*)$", text_of(source_of(name)).partition("\nExamples:\n")[2].partition('"""')[0])
-
-
 # Words that a tool refuses by themselves, and what it says of some.
 WRONG_WORDS = {
     "answers": [], "ask": [("one", "two"), ("--table=-", "-")], "audit": [("--baseline", "profile.json")],
@@ -266,7 +257,7 @@ class Help(Case):
             self.assertEqual(self.run_words([SCF, "help"], stdout=full)[0], 2)
 
     def test_each_command_stands_in_the_list_once_which_fits_a_screen(self):
-        self.assertEqual([name for name, _ in COMMANDS], [*commands.COMMANDS, "core"])
+        self.assertEqual(re.findall(r"(?m)^  ([a-z-]+) +\S.*$", LIST), [*commands.COMMANDS, "core"])
         self.assertEqual(sorted(re.findall(r"[a-z-]+(?= |\n)", LIST.partition("Other names: ")[2].replace(
             "; rarely needed:", ""))), sorted([*commands.ALIASES, *commands.OTHERS]))
         self.assertLessEqual(LIST.count("\n"), 24)
@@ -358,7 +349,7 @@ class Examples(Confined):
         shutil.copy2(TABLE, self.folder)
 
     def run_examples(self, name, **more):
-        actual = examples_of(name)
+        actual = re.findall(r"(?m)^    (scf .*)$", module(name).__doc__.partition("\nExamples:\n")[2])
         self.assertEqual(len(actual), 3, name)
         for line in actual:
             with self.subTest(line):
