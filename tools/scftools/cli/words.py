@@ -32,7 +32,7 @@ ARCH_HELP = ("the architecture of the syscalls{}, and of the table if none is gi
 OWN_TABLE = "the syscall table; - is standard input [default: that of the architecture]"
 FILTER_HELP = "a filter: raw, or text (hexadecimal, a C array, tcpdump -ddd, scf's assembler)"
 # Options that few need, which -h leaves out, and the most others that it shows.
-COMMON, MOST_IN_SHORT = ("--color", "--limit", "--splits", "--strict", "--table", "--version"), 5
+COMMON, MOST_IN_SHORT = {"-h", "--help", "--color", "--limit", "--splits", "--strict", "--table", "--version"}, 5
 OBJECT_NAME, LONGEST_OBJECT_NAME = Pattern(r"[a-z0-9]([-a-z0-9]*[a-z0-9])?(\.[a-z0-9]([-a-z0-9]*[a-z0-9])?)*"), 253
 # What the statuses of each tool have in common.
 OTHER_STATUSES = ("It is 2 if anything can't be read, is refused or is misspelt, or the output can't be written; 70 "
@@ -193,8 +193,8 @@ class Parser(argparse.ArgumentParser):
         for argument in files if prefix else ():
             setattr(options, argument.dest, [prefix + name for name in getattr(options, argument.dest)])
         output.color = options.color
-        texts = {name: getattr(options, name, None) for name in client.LIMIT_OPTIONS}
-        client.limits = {name: text for name, text in texts.items() if text is not None}
+        client.limits = {name: getattr(options, name) for name in client.LIMIT_OPTIONS
+                         if getattr(options, name, None) is not None}
         if self.command is not None and getattr(options, "pid", None) is None:
             self.command = self.command if isinstance(self.command, str) else self.command(options)
             self.take_standard_input(options, files)
@@ -225,9 +225,8 @@ class Parser(argparse.ArgumentParser):
         """If no file is given, becomes the program, or has the tool take standard input as the file."""
         missing = [action for action in files if getattr(options, action.dest) in (None, [])]
         if not missing:
-            for flag in self.given_options(options):
-                if flag in OF_BUNDLES:
-                    self.error(f"{flag} goes with a bundle on standard input, and not with files")
+            self.reject(*((flag in OF_BUNDLES, f"{flag} goes with a bundle on standard input, and not with files")
+                          for flag in self.given_options(options)))
             return
         takes_input = self.command is not None and not os.isatty(0)
         words = self.program_words(options) if takes_input and len(missing) == len(files) else None
@@ -262,10 +261,10 @@ class Parser(argparse.ArgumentParser):
         """Prints the help like any other output: on request with few options."""
         formatter = self._get_formatter()
         if is_short:
-            shown_actions = [action for action in self._actions if action.help != argparse.SUPPRESS
-                             and not {"-h", "--help"}.union(COMMON).intersection(action.option_strings)]
-            files, options = ([action for action in shown_actions if bool(action.option_strings) == is_option]
-                              for is_option in (False, True))
+            shown = [action for action in self._actions if action.help != argparse.SUPPRESS
+                     and not COMMON.intersection(action.option_strings)]
+            files = [action for action in shown if not action.option_strings]
+            options = [action for action in shown if action.option_strings]
             formatter.add_usage(self.usage, self._actions, [])
             formatter.add_text(self.description)
             formatter.start_section("options")

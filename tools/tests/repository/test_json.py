@@ -71,13 +71,6 @@ class Page(Examples):
             faults = json_schema.faults_of_output(shlex.split(line), json.dumps(whole), whole["status"])
             self.assertEqual(list(faults), [], line)
 
-    def test_a_gap_stands_for_what_was_printed(self):
-        for example, printed, whole in (
-                (GAPS[0], {"a": 1}, {"a": 1}), (GAPS[1], [1, 2], [1, 2]), (GAPS[0], [1], {}), (GAPS[1], None, []),
-                ({"a": GAPS[0], "b": 1}, {"a": {"c": 2}, "b": 3}, {"a": {"c": 2}, "b": 1}),
-                ([GAPS[0], 1], [{"a": 2}, 1, 3], [{"a": 2}, 1]), ([GAPS[0], 1], [], [{}, 1])):
-            self.assertEqual(filled(example, printed), whole)
-
     def test_each_command_stands_in_the_page_and_the_schema(self):
         commands = set(commands_with_json())
         self.assertEqual({shlex.split(line)[1] for line, _ in EXAMPLES}, commands - {*ALIASES})

@@ -102,10 +102,6 @@ class Modules(unittest.TestCase):
                     elif name.startswith("scftools.") and name != "scftools.launch":
                         self.assertLessEqual(*(ROOMS.index(module.split(".")[1]) for module in (used, name)))
 
-    def test_what_a_cycle_is(self):
-        self.assertEqual(cycle_in({"a": {"b"}, "b": {"c"}, "c": {"b"}}), ["b", "c", "b"])
-        self.assertEqual(cycle_in({"a": {"b", "c"}, "b": {"c"}, "c": set()}), [])
-
     def test_only_what_is_dear_is_imported_late(self):
         for name in modules():
             self.assertLessEqual({imported for imported, is_late in imports(name) if is_late}, LATE, name)
