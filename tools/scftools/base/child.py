@@ -109,7 +109,8 @@ def read_child(write: Callable[[Callable[[bytes], object]], object], seconds: fl
         child = os.fork()
         if not child:
             os.close(ends[0])
-            _be_child(lambda: write(lambda line: _write(ends[1], line)), seconds, parent)
+            out = os.fdopen(ends[1], "wb")
+            _be_child(lambda: write(lambda line: out.write(line) and out.flush()), seconds, parent)
         os.close(ends[1])
         signal.pthread_sigmask(signal.SIG_SETMASK, mask | heeded)
         try:
@@ -120,12 +121,6 @@ def read_child(write: Callable[[Callable[[bytes], object]], object], seconds: fl
     finally:
         signal.pthread_sigmask(signal.SIG_SETMASK, mask)
     return status
-
-
-def _write(file: int, line: bytes) -> None:
-    unsent = memoryview(line)
-    while unsent:
-        unsent = unsent[os.write(file, unsent):]
 
 
 def _take_lines(child: int, file: int, heeded: set[int], until: float, take: Callable[[bytes], float | None],

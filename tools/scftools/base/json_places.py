@@ -45,12 +45,6 @@ class TooManyTokens(Exception):
     """The text has more than MOST_TOKENS tokens."""
 
 
-def _end_of_string(text: str, begin: int) -> int:
-    """The index behind a string that begins there, or behind a text that ends in it."""
-    quotes = (match.end() for match in IN_STRING.finditer(text, begin + 1) if match[0] == '"')
-    return next(quotes, len(text))
-
-
 def tokens(text: str) -> Iterator[tuple[int, str]]:
     """The tokens of a text, each with its index. Raises TooManyTokens."""
     end = 0
@@ -60,7 +54,8 @@ def tokens(text: str) -> Iterator[tuple[int, str]]:
             return
         begin, end = match.span()
         if text[begin] == '"':
-            end = _end_of_string(text, begin)
+            # (a text may end in a string)
+            end = next((match.end() for match in IN_STRING.finditer(text, begin + 1) if match[0] == '"'), len(text))
         yield begin, text[begin:end]
     raise TooManyTokens
 

@@ -92,14 +92,6 @@ def read_files(names, table, options):
     return causes.Inputs(own_tables, profile, stack, options.native)
 
 
-def started(process):
-    """When a process began, in seconds since 1970; None if it has ended."""
-    from scfhost import ptrace  # pylint: disable=import-outside-toplevel
-
-    ticks, boot = ptrace.ticks_at_start(process), re.search(rb"(?m)^btime ([0-9]+)$", ptrace.contents("/proc/stat"))
-    return None if ticks is None or boot is None else int(boot[1]) + ticks / os.sysconf("SC_CLK_TCK")
-
-
 def lacking(process):
     """The lines for a process without a record."""
     logged = audit_records.actions_logged()
@@ -114,7 +106,11 @@ def lacking(process):
 
 def of_process(options, files, table):
     """The records of a process, not of an earlier one by its number, and files; without any its filters, if it runs."""
-    begun = started(options.pid)
+    from scfhost import ptrace  # pylint: disable=import-outside-toplevel
+
+    ticks, boot = ptrace.ticks_at_start(options.pid), re.search(rb"(?m)^btime (\d+)$", ptrace.contents("/proc/stat"))
+    # (in seconds since 1970; None if the process has ended)
+    begun = None if ticks is None or boot is None else int(boot[1]) + ticks / os.sysconf("SC_CLK_TCK")
     since = None if begun is None else begun - TOLERANCE
     # (auditd takes the kernel's records where it runs)
     of_auditd = strace.log_lines(audit_records.AUDITD_LOG) if os.path.exists(audit_records.AUDITD_LOG) else ()
