@@ -87,17 +87,6 @@ def earlier_in(name):
         raise program.ToolError(f"{inputs.label(name)} isn't an object that --json printed") from why
 
 
-def show(report, given, table, earlier):
-    """Prints an audit, and what changed since an earlier one."""
-    if given.json:
-        output.put_json(audit_output.audit_json(report, table, earlier))
-    elif given.json_lines:
-        for value in audit_output.json_lines(report, table, earlier):
-            output.put_json(value)
-    else:
-        output.put_lines(audit_output.audit_lines(report, table, given.programs, earlier))
-
-
 def main():
     given = read_words()
     table = tables.read_table(given.table)
@@ -116,14 +105,16 @@ def main():
             output.replace_file(given.prometheus, audit_output.metrics(report))
         if given.html is not None:
             output.replace_file(given.html, audit_output.page(report, table, earlier))
-        if before is None or given.json:
-            show(report, given, table, earlier)
+        if given.json:
+            output.put_json(audit_output.audit_json(report, table, earlier))
+        elif given.json_lines:
+            for value in audit_output.json_lines(report, table, earlier) if before is None else \
+                    audit_output.changes(before, report):
+                output.put_json(value)
+        elif before is None:
+            output.put_lines(audit_output.audit_lines(report, table, given.programs, earlier))
         else:
-            for change in audit_output.changes(before, report, given.programs or given.json_lines):
-                if given.json_lines:
-                    output.put_json(change)
-                else:
-                    output.put_line(audit_output.change_text(change))
+            output.put_lines(map(audit_output.change_text, audit_output.changes(before, report, given.programs)))
         output.flush()
         if given.watch is None:
             return report.status

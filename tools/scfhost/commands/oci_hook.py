@@ -95,7 +95,16 @@ def judge(options, process):
     return hooks.finding_of(process.confined(options.wait, options.force), asked, process)
 
 
-def tell(is_json, container, result, killed):
+def examine(judge_process, seconds, kills, is_json):
+    """Reads the container's state, examines the container, and says what is found: the status."""
+    container, killed = None, []
+    try:
+        container = hooks.container_of(hooks.state(min(seconds, hooks.STATE_SECONDS)))
+        examination = hooks.Examination(hooks.ContainerProcess(container), seconds, kills)
+        result = examination.result(lambda: judge_process(examination.process), is_json)
+        killed = examination.killed
+    except hooks.ContainerError as why:
+        result = hooks.plain_finding(str(why))
     lines = [hooks.verdict_line(container, result), *(kill.line for kill in killed), *result.lines()]
     if is_dry_run():
         killing = ", and the container would be killed" if "--kill" in sys.argv[1:] else ""
@@ -109,19 +118,6 @@ def tell(is_json, container, result, killed):
     else:
         program.say(*lines)
     hooks.write_log(program.name(), result.status, lines)
-
-
-def examine(judge_process, seconds, kills, is_json):
-    """Reads the container's state, and examines the container: the status."""
-    container, killed = None, []
-    try:
-        container = hooks.container_of(hooks.state(min(seconds, hooks.STATE_SECONDS)))
-        examination = hooks.Examination(hooks.ContainerProcess(container), seconds, kills)
-        result = examination.result(lambda: judge_process(examination.process), is_json)
-        killed = examination.killed
-    except hooks.ContainerError as why:
-        result = hooks.plain_finding(str(why))
-    tell(is_json, container, result, killed)
     return result.status
 
 
