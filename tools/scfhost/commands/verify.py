@@ -124,16 +124,6 @@ def container_named(owned, name, user):
                             f"name or an ID that begins so; {those}: {listed or 'none'}")
 
 
-def configured_request(container, settings):
-    """The question whether a container is confined as its own configuration says."""
-    if container.why is not None:
-        raise program.ToolError(f"the configuration of container {container.identifier}: {container.why}; give a "
-                                "PROFILE")
-    if container.seccomp is None:
-        return verify.nothing_request(*settings, configured=False)
-    return verify.request_of(json.loads(container.seccomp), container.runtime, *settings, configured=True)
-
-
 def is_configured(data, name, kernel, pid):
     """Whether a configuration has a profile; None of what is no configuration. Ends the tool where it isn't that of the
     process, or runtimes read it otherwise than it is spelled."""
@@ -185,7 +175,12 @@ def request_of(options, kernel, named):
     if options.beside is not None:
         return verify.Request(profile_inputs.ProfileInput(b""), *settings, saved=verify.read_saved(options.beside))
     if options.profile is None:
-        return configured_request(named, settings)
+        # (as the container's own configuration says)
+        if named.why is not None:
+            raise program.ToolError(f"the configuration of container {named.identifier}: {named.why}; give a PROFILE")
+        if named.seccomp is None:
+            return verify.nothing_request(*settings, configured=False)
+        return verify.request_of(json.loads(named.seccomp), named.runtime, *settings, configured=True)
     data = read_profile(options.profile, options.runtime is not None)
     configured = is_configured(data, options.profile, kernel, options.pid)
     if configured is False:

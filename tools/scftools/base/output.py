@@ -82,16 +82,6 @@ BEGINNING_COLOURS = {"accepted ": GREEN, "fault ": RED, "undecided at ": YELLOW,
 color = "auto"
 
 
-def _colored(line: str) -> str:
-    """A line, safe by itself, in the colour of what it says, where that is wanted."""
-    is_auto = color == "auto" and sys.stdout is not None and sys.stdout.isatty() and not os.environ.get("NO_COLOR")
-    if not is_auto and color != "always":
-        return line
-    colours = (colour for beginning, colour in BEGINNING_COLOURS.items() if line.startswith(beginning))
-    colour = VERDICT_COLOURS.get(line) or next(colours, None)
-    return line if colour is None else f"\x1b[{colour}m{line}\x1b[0m"
-
-
 class Failed(OSError):
     """Output can't be written."""
 
@@ -107,8 +97,12 @@ def put(text: str | bytes) -> None:
 
 
 def put_line(text: str) -> None:
-    """Prints a line, escaped, in colour where that is wanted."""
-    put(f"{_colored(escaped(text))}\n")
+    """Prints a line, escaped, in the colour of what it says, where that is wanted."""
+    line = escaped(text)
+    is_auto = color == "auto" and sys.stdout is not None and sys.stdout.isatty() and not os.environ.get("NO_COLOR")
+    colours = (colour for beginning, colour in BEGINNING_COLOURS.items() if line.startswith(beginning))
+    colour = VERDICT_COLOURS.get(line) or next(colours, None) if is_auto or color == "always" else None
+    put(f"{line}\n" if colour is None else f"\x1b[{colour}m{line}\x1b[0m\n")
 
 
 def put_lines(lines: Iterable[str]) -> None:

@@ -92,21 +92,17 @@ def read_words():
     return parser, options
 
 
-def wanted_of(options):
-    """What judges it: filters, or the profiles of a unit."""
-    if options.beside is not None or operands.is_process(options.profile):
-        return [operands.read_stack(options.beside or [options.profile])]
-    given = operands.read([options.profile], options)
-    if isinstance(given, list):
-        return [given]
-    return [part for profile in (given, *(operands.read([name], options) for name in options.also))
-            for part in profile.parts]
-
-
 def main():
     parser, options = read_words()
     inputs.kept = {} if options.html is not None else None
-    actual, wanted = operands.read(options.filters, options), wanted_of(options)
+    actual = operands.read(options.filters, options)
+    # (filters, or the profiles of a unit)
+    if options.beside is not None or operands.is_process(options.profile):
+        wanted = [operands.read_stack(options.beside or [options.profile])]
+    else:
+        given = operands.read([options.profile], options)
+        wanted = [given] if isinstance(given, list) else [
+            part for side in (given, *(operands.read([name], options) for name in options.also)) for part in side.parts]
     table = tables.read_table(options.table)
     if not any(isinstance(side, ProfileInput) for side in (actual, *wanted)):
         parser.reject(*((getattr(options, name), f"--{name} speaks of a profile, and no side is one")
