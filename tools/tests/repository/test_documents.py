@@ -197,33 +197,25 @@ class Blocks(Page):
     block without a language that follows at once, if one does.
     """
 
-    def run_block(self, block):
-        """What each command of a block prints, all in one shell."""
-        commands = list(commands_of(block))
-        script = "".join(f"{command}printf '\\nstatus %s of command {at}\\n' \"$?\"\n" for at,
-                         command in enumerate(commands))
-        done = completed(["sh"], script.encode(), cwd=self.folder)
-        printed = re.split(r"\nstatus ([0-9]+) of command [0-9]+\n", done.stdout.decode())
-        self.assertEqual(len(printed), 2 * len(commands) + 1, done.stderr.decode())
-        return [(command, printed[2 * index], int(printed[2 * index + 1]))
-                for index, command in enumerate(commands)], done.stderr.decode()
-
     def check_blocks(self, *path):
-        """Runs the blocks of a page: how many outputs were compared."""
+        """Runs the blocks of a page, all commands of one in one shell: how many outputs were compared."""
         compared = 0
-        blocks = list(blocks_of(text_of(TOP, *path)))
-        for block, output in blocks:
-            ran, message = self.run_block(block)
-            remaining = ""
-            for command, printed, status in ran:
+        for block, output in blocks_of(text_of(TOP, *path)):
+            commands, remaining = list(commands_of(block)), ""
+            script = "".join(f"{command}printf '\\nstatus %s of command {at}\\n' \"$?\"\n" for at,
+                             command in enumerate(commands))
+            done = completed(["sh"], script.encode(), cwd=self.folder)
+            printed = re.split(r"\nstatus ([0-9]+) of command [0-9]+\n", done.stdout.decode())
+            self.assertEqual(len(printed), 2 * len(commands) + 1, done.stderr.decode())
+            for command, shown, status in zip(commands, printed[::2], map(int, printed[1::2])):
                 # (a command that shows what it says on standard error may refuse its words)
-                self.assertIn(status, (0, 1, 4, 2)[:3 + ("2>&1\n" in command)], f"{command}{message}")
+                self.assertIn(status, (0, 1, 4, 2)[:3 + ("2>&1\n" in command)], f"{command}{done.stderr.decode()}")
                 text = re.search(rf"\s#\s(?:.*: )?({OUTPUT})", command.split("\n")[0])
                 if text:
-                    self.assertEqual(printed.split("\n")[0], text[1].strip(), command)
+                    self.assertEqual(shown.split("\n")[0], text[1].strip(), command)
                     compared += 1
                 else:
-                    remaining += printed
+                    remaining += shown
             if output is not None:
                 self.assertEqual(remaining, output)
                 compared += 1
@@ -355,24 +347,21 @@ class Consoles(Page):
         self.assertEqual(self.check_console("docs", "RUNTIMES.md"), (2, 0))
 
     def test_each_tool_is_there_and_takes_its_options(self):
-        actual = [command for path in (("docs", "RECIPES.md"), ("docs", "OPERATIONS.md"), ("README.md",))
-                  for command in self.tools_in(text_of(TOP, *path))]
-        self.assertGreater(len(actual), 30)
-        for name, options_of_command in sorted(set(actual)):
-            with self.subTest(name):
-                out = self.of_status(0, self.run_tool(name, "--help"))
-                for option in options_of_command:
-                    self.assertRegex(out, rf"{option}\b(?!-)")
-
-    def tools_in(self, text):
-        """The tools of a page's commands, each with the options of its own."""
+        """Each option of a command's own, behind which `$(..)` has others'."""
+        actual, names = set(), "|".join(sorted(TOOLS, key=len, reverse=True))
+        text = "".join(text_of(TOP, path) for path in ("docs/RECIPES.md", "docs/OPERATIONS.md", "README.md"))
         for body in re.findall(r"^```\w+\n(.*?)^```$", text, re.M | re.S) + re.findall(r"`([^`\n]+)`", text):
             count = 1
             while count:
                 body, count = re.subn(r"\$\([^()]*\)", "", body)
-            names = "|".join(sorted(TOOLS, key=len, reverse=True))
-            for name, remaining in re.findall(rf"\b(?:tools/|scf[- ])({names})\b([^\n|;&]*)", body):
-                yield name, tuple(re.findall(r"(?<= )--[a-z0-9-]+", remaining))
+            actual.update((name, tuple(re.findall(r"(?<= )--[a-z0-9-]+", remaining))) for name, remaining in
+                          re.findall(rf"\b(?:tools/|scf[- ])({names})\b([^\n|;&]*)", body))
+        self.assertGreater(len(actual), 30)
+        for name, options_of_command in sorted(actual):
+            with self.subTest(name):
+                out = self.of_status(0, self.run_tool(name, "--help"))
+                for option in options_of_command:
+                    self.assertRegex(out, rf"{option}\b(?!-)")
 
     def test_descriptors_of_one_digit(self):
         """Of `10<file` POSIX leaves to the shell what it is (Shell Command Language, 2.7); to dash it is two words."""

@@ -42,10 +42,6 @@ def parsed(name):
     return ast.parse(text_of(os.path.join(TOOLS, *name.split(".")) + ".py"))
 
 
-def is_for_types(node):
-    return isinstance(node, ast.If) and isinstance(node.test, ast.Name) and node.test.id == "TYPE_CHECKING"
-
-
 def imported_from(node, package):
     """What each name of a statement `from .. import ..` is called in the module, and the module that it is or is of."""
     at = importlib.util.resolve_name("." * node.level + (node.module or ""), package)
@@ -61,7 +57,7 @@ def imports_of(node, package, is_late=False):
             yield from ((module, is_late) for _, module in imported_from(child, package))
         elif isinstance(child, ast.Import):
             yield from ((name.name, is_late) for name in child.names)
-        elif not is_for_types(child):
+        elif not (isinstance(child, ast.If) and ast.unparse(child.test) == "TYPE_CHECKING"):
             yield from imports_of(child, package, is_late or isinstance(child, ast.FunctionDef))
 
 
