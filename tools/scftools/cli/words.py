@@ -38,7 +38,6 @@ OBJECT_NAME, LONGEST_OBJECT_NAME = Pattern(r"[a-z0-9]([-a-z0-9]*[a-z0-9])?(\.[a-
 OTHER_STATUSES = ("It is 2 if anything can't be read, is refused or is misspelt, or the output can't be written; 70 "
                   "after an internal error; 125 if scf can't be run.")
 OF_DISPOSITION = "only check that both sides deny, delegate and allow the same"
-RECORD_OPTIONS = ("--nr", "--arch", "--ip", *(f"--a{index}" for index in range(6)))
 # Options that only a bundle has, which scf(1) describes.
 OF_BUNDLES = ("--architectures", "--reading", "--total-limit", "--nr-from", "--nr-to", "--left-out")
 # The options of the program's commands, but for those that give a record.
@@ -48,8 +47,9 @@ OF_PROGRAM = {
     "compile": ("--architectures", "--reading", "--left-out"),
     "compare": ("--native", "--calls", "--no-more", "--no-less", "--disposition", "--limit", "--splits", "--beside",
                 *OF_BUNDLES[:-1])}
-# Options of tools that say which of the program's commands it is, or have no part in it.
-WITHOUT_WORDS = ("--all", "--as", "--color", "--plain", "--regions", "--steps", "--table")
+# Options of tools that give a record, say which of the program's commands it is, or have no part in it.
+WITHOUT_WORDS = ("--nr", "--arch", "--ip", *(f"--a{index}" for index in range(6)),
+                 "--all", "--as", "--color", "--plain", "--regions", "--steps", "--table")
 # The commands that also take one of the files of a bundle alone.
 OF_ONE_FILE = ("answers", "ask", "compile", "decide")
 
@@ -216,7 +216,7 @@ class Parser(argparse.ArgumentParser):
         for flag, values in self.given_options(options).items():
             if flag in OF_PROGRAM[self.command] and len(values) < 2:
                 words += [f"{flag}={values[0]}" if values else flag]
-            elif flag not in (*RECORD_OPTIONS, *WITHOUT_WORDS):
+            elif flag not in WITHOUT_WORDS:
                 return None
         record = self.record_words(options)
         return None if record is None else [*words, *record]

@@ -49,14 +49,6 @@ SAID_OF_WRONG_WORDS = {
 }
 
 
-class Usage(Case):
-    def test_wrong_words(self):
-        for name, rows in WRONG_WORDS.items():
-            for words in (("--no-such-option",), *rows):
-                with self.subTest(name, words=words):
-                    self.is_refused(SAID_OF_WRONG_WORDS.get((name, *words), f"{name}: "), name, *words)
-
-
 class Dispatch(Case):
     def setUp(self):
         super().setUp()
@@ -288,6 +280,12 @@ class Help(Case):
             self.assertLessEqual(len(re.findall(r"(?m)^  --", short)), 5, name)
             self.assertEqual(short.partition("\nexamples:\n")[2], whole.partition("\nexamples:\n")[2], name)
             self.assertIn(f"scf {name} --help has all.\n", short)
+
+    def test_wrong_words(self):
+        for name, rows in WRONG_WORDS.items():
+            for words in (("--no-such-option",), *rows):
+                with self.subTest(name, words=words):
+                    self.is_refused(SAID_OF_WRONG_WORDS.get((name, *words), f"{name}: "), name, *words)
 
     def test_a_wrong_option_names_the_nearest(self):
         for words, near in ((["compare", "--no-mor", "a", "b"], "--no-more"), (["lint", "--strcit", "p"], "--strict"),

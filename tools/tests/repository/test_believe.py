@@ -165,16 +165,14 @@ a ~~ b = a ≡ b
         self.assertIn("More.", text_of(path))
 
 
-class Layers(Case):
-    def test_no_public_contract_of_this_repository_stands_on_an_internal_definition(self):
-        self.assertEqual(self.run_words([for_developers("believe"), "--all"]), (0, "", ""))
-
-
 class TrustedBase(Case):
     """docs/trusted-base.txt."""
 
     def page(self):
         return text_of(TOP, "docs", "trusted-base.txt")
+
+    def test_no_public_contract_of_this_repository_stands_on_an_internal_definition(self):
+        self.assertEqual(self.run_words([for_developers("believe"), "--all"]), (0, "", ""))
 
     def test_its_lists_are_what_the_sources_have(self):
         """Where this fails, `dev/believe --page docs/trusted-base.txt --write` writes the lists anew."""

@@ -160,9 +160,7 @@ class Gate(Case):
                 self.assertEqual(gate.wait(PATIENCE), 128 + number)
             self.assertEqual(os.listdir(self.room), [])
 
-
-class Seconds(Case):
-    def test_a_run_that_takes_more_fails(self):
+    def test_a_run_that_takes_more_seconds_fails(self):
         """One that doesn't end, and two processes that take more together and not alone."""
         two = "import os, time\nother = os.fork()\nwhile time.process_time() < 0.7:\n    pass\nother and os.wait()\n"
         for script in ("while True:\n    pass\n", two):

@@ -464,21 +464,18 @@ class Bindings(Built):
 
 
 class Memory(Built):
-    def parties(self):
-        """A filter, a profile that it doesn't answer as, and a table."""
-        filters = self.file("own.bpf", filter_of([0, 1, 231]))
-        text = {**json.loads(profile_of("read", "write", "socket", "absent")),
-                "architectures": ["SCMP_ARCH_X86_64", "SCMP_ARCH_X86"]}
-        profile = self.file("own.json", text)
-        return filters, profile, self.file("own.table", "read 0\nwrite 1\nsocket 41\nexit_group 231\nclone 56\n")
-
     def test_each_allocation_fails_in_turn_and_calls_run_side_by_side(self):
+        """Of a filter, a profile that it doesn't answer as, and a table."""
+        profile = {**json.loads(profile_of("read", "write", "socket", "absent")),
+                   "architectures": ["SCMP_ARCH_X86_64", "SCMP_ARCH_X86"]}
+        parties = (self.file("own.bpf", filter_of([0, 1, 231])), self.file("own.json", profile),
+                   self.file("own.table", "read 0\nwrite 1\nsocket 41\nexit_group 231\nclone 56\n"))
         wraps = [f"-Wl,--wrap={name}" for name in ("malloc", "realloc", "free")]
         for folder in (OUT, os.path.join(OUT, "rattle")):
             with self.subTest(folder):
                 program = self.linked("tests/memory.c", os.path.join(folder, "libscf.a"), "-pthread", *wraps,
                                       compiler=["gcc", "-std=gnu99"])
-                self.assertRegex(self.runs(program, *self.parties()), r"^\d{4,} checks\n$")
+                self.assertRegex(self.runs(program, *parties), r"^\d{4,} checks\n$")
 
 
 # ---- the library beside the program
