@@ -38,8 +38,10 @@ RECORD = "audit: type=1326 audit(1.000:1): sig=31 arch=c000003e syscall=41 compa
 PYTHON = ["sh", sys.executable, "-IS"]
 
 
-class Escaped(unittest.TestCase):
-    def test_texts(self):
+class Texts(unittest.TestCase):
+    """Texts as they are printed, and scf's lines, which are read by their order."""
+
+    def test_escaped(self):
         for text, shown in (("same", "same"), ("a\tb\n", "a\\x09b\\x0a"), ("\x1b[0m", "\\x1b[0m"),
                             (b"\xff\xc3", "\\xff\\xc3"), (b"\x80ab", "\\x80ab"), ("\x80", "\\xc2\\x80"),
                             ("\udcff", "\\xff"), ("é", "é"), ("\ud800x\udcffé", "\\xed\\xa0\\x80x\\xffé"),
@@ -52,6 +54,33 @@ class Escaped(unittest.TestCase):
             self.assertTrue(shown.isprintable() and shown.isascii(), byte)
         for point in (*range(0x20), *range(0x7F, 0xA0)):
             self.assertTrue(output.escaped(chr(point)).startswith("\\x"), point)
+
+    def test_lines_by_their_order(self):
+        differs = ("differs\ncall nr 1 arch 0xc000003e ip 0x0 args 0x1 0x2 0x3 0x4 0x5 0xffffffffffffffff\n"
+                   "filter ERRNO 22\nprofile UNNAMED 0x12340000\n")
+        actual = verdicts.report(differs + "skipped a\nother b\n")
+        self.assertEqual(actual.verdict.word, "differs")
+        self.assertEqual(actual.verdict.call.arguments, (1, 2, 3, 4, 5, 2**64 - 1))
+        self.assertEqual((actual.verdict.call.number, actual.verdict.call.architecture), (1, X86_64))
+        self.assertEqual((str(actual.verdict.filters), str(actual.verdict.profile)), ("ERRNO 22", "UNNAMED 0x12340000"))
+        self.assertEqual(verdicts.report("undecided at 7\n").verdict.at, 7)
+        self.assertEqual(verdicts.report("unfinished\n").verdict.word, "unfinished")
+        fault = verdicts.report("fault profile Conflict number 41 first 0 second 1\n").fault
+        self.assertEqual((fault.source, fault.kind, fault.numbers),
+                         ("profile", "Conflict", {"number": 41, "first": 0, "second": 1}))
+
+    def test_nothing_behind_a_skipped_name_counts(self):
+        for forged in ("differs", "same", FORGED_CALL, "fault filter Empty", "undecided at 1"):
+            actual = verdicts.report(f"same\nskipped x\n{forged}\nother y\n{forged}\n")
+            self.assertEqual((actual.verdict.word, actual.fault, actual.calls), ("same", None, ()))
+        calls = verdicts.report(f"differs\n{FORGED_CALL}\nskipped x\n{FORGED_CALL}\n").calls
+        self.assertEqual([call.number for call in calls], [41])
+
+    def test_texts_that_scf_never_prints(self):
+        for text in ("", "\n", "sam", "differs\n", "differs\ncall\nfilter\nprofile\n", "fault\n", "skipped a", "x\0y"):
+            actual = verdicts.report(text)
+            self.assertIsNone(actual.fault)
+            self.assertTrue(actual.verdict is None or actual.verdict.call is None)
 
 
 class Hostile(Case):
@@ -261,34 +290,3 @@ class OneWrite(OnProgram):
         for words in ("", "--help", "--version", "help compare", "compare --native --calls", "run --a3 -"):
             self.is_one_write(words.split())
         self.is_one_write([b"\xff"])
-
-
-class Reports(unittest.TestCase):
-    """scf's lines, read by their order."""
-
-    def test_lines_by_their_order(self):
-        differs = ("differs\ncall nr 1 arch 0xc000003e ip 0x0 args 0x1 0x2 0x3 0x4 0x5 0xffffffffffffffff\n"
-                   "filter ERRNO 22\nprofile UNNAMED 0x12340000\n")
-        actual = verdicts.report(differs + "skipped a\nother b\n")
-        self.assertEqual(actual.verdict.word, "differs")
-        self.assertEqual(actual.verdict.call.arguments, (1, 2, 3, 4, 5, 2**64 - 1))
-        self.assertEqual((actual.verdict.call.number, actual.verdict.call.architecture), (1, X86_64))
-        self.assertEqual((str(actual.verdict.filters), str(actual.verdict.profile)), ("ERRNO 22", "UNNAMED 0x12340000"))
-        self.assertEqual(verdicts.report("undecided at 7\n").verdict.at, 7)
-        self.assertEqual(verdicts.report("unfinished\n").verdict.word, "unfinished")
-        fault = verdicts.report("fault profile Conflict number 41 first 0 second 1\n").fault
-        self.assertEqual((fault.source, fault.kind, fault.numbers),
-                         ("profile", "Conflict", {"number": 41, "first": 0, "second": 1}))
-
-    def test_nothing_behind_a_skipped_name_counts(self):
-        for forged in ("differs", "same", FORGED_CALL, "fault filter Empty", "undecided at 1"):
-            actual = verdicts.report(f"same\nskipped x\n{forged}\nother y\n{forged}\n")
-            self.assertEqual((actual.verdict.word, actual.fault, actual.calls), ("same", None, ()))
-        calls = verdicts.report(f"differs\n{FORGED_CALL}\nskipped x\n{FORGED_CALL}\n").calls
-        self.assertEqual([call.number for call in calls], [41])
-
-    def test_texts_that_scf_never_prints(self):
-        for text in ("", "\n", "sam", "differs\n", "differs\ncall\nfilter\nprofile\n", "fault\n", "skipped a", "x\0y"):
-            actual = verdicts.report(text)
-            self.assertIsNone(actual.fault)
-            self.assertTrue(actual.verdict is None or actual.verdict.call is None)

@@ -33,8 +33,8 @@ def filled(example, printed):
     return example
 
 
-class Examples(Case):
-    """A folder with the files of the page, in which its commands run."""
+class Page(Case):
+    """The page and the schema, in a folder with the files of the page, in which its commands run."""
 
     def setUp(self):
         super().setUp()
@@ -56,8 +56,6 @@ class Examples(Case):
                 self.assertEqual((filled(example, printed), status, err), (printed, example["status"], ""), line)
             yield line, filled(example, printed)
 
-
-class Page(Examples):
     def test_each_example_is_what_its_command_prints(self):
         for line, whole in self.whole_examples():
             faults = json_schema.faults_of_output(shlex.split(line), json.dumps(whole), whole["status"])
@@ -74,14 +72,10 @@ class Page(Examples):
         for path in ("README.md", "docs/OPERATIONS.md", "docs/scf.1", "tables/commands"):
             self.assertIn("JSON.md", text_of(TOP, path), path)
 
-
-class Checker(Examples):
-    """The reading of the schema by the tests."""
-
     def faults(self, value, schema):
         return len(list(json_schema.faults(value, schema)))
 
-    def test_each_keyword(self):
+    def test_each_keyword_of_the_schema(self):
         for schema, good, bad in (
                 ({"type": "integer"}, (0, -1), (True, 1.0, "1", None)),
                 ({"type": ["string", "null"]}, ("", None), (1, [])),

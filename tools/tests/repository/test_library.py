@@ -353,6 +353,19 @@ class Languages(Built):
                                       compiler=[compiler, "-std=c++20", "-fno-exceptions"])
                 self.assertRegex(self.runs(program), r"^\d{2} checks\n$")
 
+    def test_each_allocation_fails_in_turn_and_calls_run_side_by_side(self):
+        """Of a filter, a profile that it doesn't answer as, and a table."""
+        profile = {**json.loads(profile_of("read", "write", "socket", "absent")),
+                   "architectures": ["SCMP_ARCH_X86_64", "SCMP_ARCH_X86"]}
+        parties = (self.file("own.bpf", filter_of([0, 1, 231])), self.file("own.json", profile),
+                   self.file("own.table", "read 0\nwrite 1\nsocket 41\nexit_group 231\nclone 56\n"))
+        wraps = [f"-Wl,--wrap={name}" for name in ("malloc", "realloc", "free")]
+        for folder in (OUT, os.path.join(OUT, "rattle")):
+            with self.subTest(folder):
+                program = self.linked("tests/memory.c", os.path.join(folder, "libscf.a"), "-pthread", *wraps,
+                                      compiler=["gcc", "-std=gnu99"])
+                self.assertRegex(self.runs(program, *parties), r"^\d{4,} checks\n$")
+
 
 class Bindings(Built):
     """The README of each binding: its program, which prints what it says, and its commands."""
@@ -461,21 +474,6 @@ class Bindings(Built):
         self.file("program/go.mod", f"module program\nrequire {module} v0.0.0\nreplace {module} => {folder}\n")
         self.program("main.go", self.code("go", "go"), "go", "vet", ".")
         self.check_printed_line(self.program("main.go", self.code("go", "go"), "go", "run", "."), 0, "go", "go")
-
-
-class Memory(Built):
-    def test_each_allocation_fails_in_turn_and_calls_run_side_by_side(self):
-        """Of a filter, a profile that it doesn't answer as, and a table."""
-        profile = {**json.loads(profile_of("read", "write", "socket", "absent")),
-                   "architectures": ["SCMP_ARCH_X86_64", "SCMP_ARCH_X86"]}
-        parties = (self.file("own.bpf", filter_of([0, 1, 231])), self.file("own.json", profile),
-                   self.file("own.table", "read 0\nwrite 1\nsocket 41\nexit_group 231\nclone 56\n"))
-        wraps = [f"-Wl,--wrap={name}" for name in ("malloc", "realloc", "free")]
-        for folder in (OUT, os.path.join(OUT, "rattle")):
-            with self.subTest(folder):
-                program = self.linked("tests/memory.c", os.path.join(folder, "libscf.a"), "-pthread", *wraps,
-                                      compiler=["gcc", "-std=gnu99"])
-                self.assertRegex(self.runs(program, *parties), r"^\d{4,} checks\n$")
 
 
 # ---- the library beside the program
