@@ -87,8 +87,7 @@ def write(named, folder):
         raise OSError(error.errno, error.strerror, os.path.join(folder, stack.name)) from error
     finally:
         os.close(at)
-    for name in written:
-        output.put_line(os.path.join(folder, name))
+    output.put_lines(os.path.join(folder, name) for name in written)
 
 
 def of_process(options):

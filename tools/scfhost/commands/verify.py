@@ -81,8 +81,8 @@ def read_words():
     runtimes.add_options(parser, without_caps="the bounding set of PID")
     parser.add("--also", "--limit", "--splits", "--strict", "--table", "--verbose", "--json")
     parser.value("--user", "UID", "CONTAINER is one of this user's", type=int)
-    parser.add("pid", metavar="PID|CONTAINER", help="a process, or a thread of it; or the name of a container or the "
-                                                    "beginning of its ID")
+    parser.value("pid", "PID|CONTAINER",
+                 "a process, or a thread of it; or the name of a container or the beginning of its ID")
     parser.value("--beside", "FOLDER", "compare with the filters that filters-of wrote")
     if not any(word.partition("=")[0] == "--beside" for word in sys.argv):
         parser.value("profile", "PROFILE", "a resolved profile, or a config.json; with --runtime also an engine's; - "
@@ -235,10 +235,7 @@ def main():
     if named is not None:
         output.put_line(f"container {named.name or options.name} ({named.identifier}), {named.engine}, {named.config}")
     output.put_lines(verification.lines(options.verbose))
-    output.put_lines(output.notes(remarks))
-    if others is not None:
-        output.put_line(f"# {others}")
-    if container is not None:
-        output.put_line(f"# the container is {container.description}; its processes that were checked: "
-                        f"{len(inspection.names)}")
+    whole = None if container is None else \
+        f"the container is {container.description}; its processes that were checked: {len(inspection.names)}"
+    output.put_lines(output.notes(filter(None, (*remarks, others, whole))))
     return verification.status

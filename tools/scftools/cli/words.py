@@ -37,7 +37,6 @@ OBJECT_NAME, LONGEST_OBJECT_NAME = Pattern(r"[a-z0-9]([-a-z0-9]*[a-z0-9])?(\.[a-
 # What the statuses of each tool have in common.
 OTHER_STATUSES = ("It is 2 if anything can't be read, is refused or is misspelt, or the output can't be written; 70 "
                   "after an internal error; 125 if scf can't be run.")
-OF_DISPOSITION = "only check that both sides deny, delegate and allow the same"
 # Options that only a bundle has, which scf(1) describes.
 OF_BUNDLES = ("--architectures", "--reading", "--total-limit", "--nr-from", "--nr-to", "--left-out")
 # The options of the program's commands, but for those that give a record.
@@ -96,7 +95,6 @@ SHARED: dict[str, dict[str, Any]] = {
     "filter": {"metavar": "FILTER", "help": f"{FILTER_HELP}; - is standard input"},
     "filters": {"metavar": "FILTER", "nargs": "+",
                 "help": f"{FILTER_HELP}; of several the oldest first; - is standard input"},
-    "pid": {"metavar": "PID", "help": "a process, or a thread of it"},
     "profile": {"metavar": "PROFILE", "help": "a resolved profile, or a config.json; - is standard input"},
 }
 
@@ -306,11 +304,12 @@ class Parser(argparse.ArgumentParser):
         self.one_of("scope", None, ("--native", verdicts.NATIVE_SCOPE, native), ("--all", verdicts.ALL, of_all),
                     ("--calls", verdicts.CALLS, "each syscall that a table names by itself, and no other"))
 
-    def relation(self, text: str = "only check that nothing is {} than the profile", of_disposition: str = "") -> None:
+    def relation(self, text: str = "only check that nothing is {} than the profile", has_all: bool = False) -> None:
         """Adds `--no-more` and `--no-less`, on request `--disposition`."""
         self.one_of("relation", verdicts.SAME, ("--no-more", verdicts.NO_MORE, text.format("more permissive")),
                     ("--no-less", verdicts.NO_LESS, text.format("stricter")),
-                    ("--disposition", verdicts.SAME_DISPOSITION, of_disposition))
+                    ("--disposition", verdicts.SAME_DISPOSITION,
+                     "only check that both sides deny, delegate and allow the same" * has_all))
 
     def keep_off_terminal(self) -> None:
         """Rejects to print a filter on a terminal."""

@@ -115,8 +115,5 @@ def main():
     else:
         text = b"\n".join(inputs.read_whole(name, "header") for name in options.headers or ["-"])
         calls = calls_of(text, options.architecture)
-    if comment:
-        output.put_line(f"# {comment}")
-    for name, number in calls.items():
-        output.put_line(f"{name} {number}")
+    output.put_lines([*[f"# {comment}"] * bool(comment), *(f"{name} {number}" for name, number in calls.items())])
     return program.SUCCESS

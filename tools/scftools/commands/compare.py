@@ -68,7 +68,7 @@ def read_words():
     parser = words.Parser(__doc__, command="compare")
     parser.scope("x86-64 syscalls alone, whatever architectures a profile names",
                  "all syscalls, also those of other ABIs [default without a profile]")
-    parser.relation("only check that ACTUAL is nowhere {} than WANTED", words.OF_DISPOSITION)
+    parser.relation("only check that ACTUAL is nowhere {} than WANTED", True)
     parser.add("--limit", "--splits", "--strict", "--table", "--verbose", "--caps", "--machine", "--force", "--json",
                "--html")
     parser.add("--architectures", "--reading", "--total-limit", "--nr-from", "--nr-to")

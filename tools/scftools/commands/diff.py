@@ -66,7 +66,7 @@ def side_of(path, options):
 def main():
     parser = words.Parser(__doc__)
     parser.scope("x86-64 syscalls alone, whatever architectures a profile names")
-    parser.relation("only check that NEW is nowhere {} than OLD", words.OF_DISPOSITION)
+    parser.relation("only check that NEW is nowhere {} than OLD", True)
     runtimes.add_options(parser, is_sandboxes=True)
     parser.flag("--keep-first", "OLD and NEW are an engine's own: if two entries without conditions answer a syscall, "
                                 "keep the first")

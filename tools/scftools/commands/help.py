@@ -48,6 +48,5 @@ def main():
     for line in inputs.read_whole("-", "text").decode("utf-8", "surrogateescape").splitlines():
         sentences = meanings.meaning_of(line, table)
         is_explained = is_explained or bool(sentences)
-        output.put_line(line)
-        output.put_lines(output.notes(sentences))
+        output.put_lines([line, *output.notes(sentences)])
     return program.SUCCESS if is_explained else program.TROUBLE
