@@ -92,14 +92,10 @@ def values(text: str) -> Iterator[tuple[int, list[str | int], str]]:
 
 def indexes_of(text: str, paths: Collection[Path]) -> dict[Path, int]:
     """Where the values at some paths begin, as far as they are found; of a member that is repeated, the last."""
-    indexes = {}
     try:
-        for begin, here, _ in values(text):
-            if tuple(here) in paths:
-                indexes[tuple(here)] = begin
+        return {tuple(here): begin for begin, here, _ in values(text) if tuple(here) in paths}
     except TooManyTokens:
         return {}
-    return indexes
 
 
 def place_of(text: str, path: Path) -> str | None:

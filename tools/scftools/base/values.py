@@ -7,6 +7,7 @@ only for who reads or checks them.
 """
 from __future__ import annotations
 
+import functools
 import re
 
 TYPE_CHECKING = False
@@ -47,27 +48,17 @@ def by_key(pairs: Iterable[tuple[Any, Any]]) -> dict[Any, list[Any]]:
     return lists
 
 
-class Default:
-    """The maker of a member's value where none is given."""
-
-    def __init__(self, make: Callable[[], Any]):
-        self.make = make
-
-
 def _init(self: Any, *given: object, **named: object) -> None:
     names, members = self.__match_args__, self.__dict__
     members.update(zip(names, given))
     if not named and len(given) == len(names):
         return
-    if named:
-        is_repeated = not members.keys().isdisjoint(named)
-        members.update(named)
-        if is_repeated or len(members) > len(names) or not members.keys() <= self.__names__:
-            raise TypeError(f"{type(self).__name__} takes {', '.join(names)}")
-    if len(members) < len(names):
-        members.update({name: default.make() if isinstance(default, Default) else default
-                        for name, default in self.__defaults__.items() if name not in members})
-    if len(given) > len(names) or len(members) < len(names):
+    is_wrong = len(given) > len(names) or not members.keys().isdisjoint(named)
+    members.update(named)
+    # (a member's maker is a partial: see field)
+    members.update({name: default() if isinstance(default, functools.partial) else default
+                    for name, default in self.__defaults__.items() if name not in members})
+    if is_wrong or members.keys() != self.__names__:
         raise TypeError(f"{type(self).__name__} takes {', '.join(names)}")
 
 
@@ -89,7 +80,7 @@ def _set(self: Any, name: str, value: object) -> None:
 
 if not TYPE_CHECKING:
     def field(default_factory):
-        return Default(default_factory)
+        return functools.partial(default_factory)
 
     def dataclass(cls=None, frozen=False):
         if cls is None:
