@@ -32,8 +32,6 @@ HOSTILE = {
     "t\u202eerom\u2028z": "t\\xe2\\x80\\xaeerom\\xe2\\x80\\xa8z",
     "naïve-名": "naïve-名",
 }
-# A record of the kernel's.
-RECORD = "audit: type=1326 audit(1.000:1): sig=31 arch=c000003e syscall=41 compat=0 ip=0x0 code=0x80000000"
 # A tool's Python itself: what stands in for it on the path may open closed descriptors again.
 PYTHON = ["sh", sys.executable, "-IS"]
 
@@ -186,7 +184,8 @@ class Failing(Case):
                 ("explain", "--help"), ("surface", self.same), ("surface", "--json", self.same),
                 ("compare-profiles", self.profile, self.profile), ("compare", "--version"),
                 ("resolve-profile", self.profile), ("needs", self.file("log", "read(0) = 0\n"), self.profile),
-                ("why", RECORD), ("unit-profile", "--set", "~read"), ("ask", "--nr=read", self.profile),
+                ("why", "type=1326 audit(1.000:1): sig=31 arch=c000003e syscall=41 compat=0 ip=0x0 code=0x80000000"),
+                ("unit-profile", "--set", "~read"), ("ask", "--nr=read", self.profile),
                 ("lint", self.profile), ("profile-of", self.same),
                 ("call-table", self.file("asm.h", "#define __NR_read 0\n")))
 

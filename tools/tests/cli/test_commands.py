@@ -73,12 +73,10 @@ class Dispatch(Case):
 
     def test_core_is_the_program(self):
         """It prints what the program does, and needs nothing of the path."""
-        filter_ = filter_of([0])
-        for words, given in ((["check"], filter_), (["run", "--nr", "1"], filter_), (["compare"], self.bundle),
-                             (["compare", "--native", "--limit", "9"], self.bundle), (["run", "--nr", "read"], b""),
+        for words, given in ((["compare", "--native", "--limit", "9"], self.bundle), (["run", "--nr", "read"], b""),
                              (["compare", "--help"], b""), (["run", "--no-such", "1"], b""), ([], b""),
-                             (["dis"], filter_), (["asm"], b"ret a\n"), (["--version"], b""), (["--no-such"], b""),
-                             (["decide", "--nr=1", "--a0", "0x5"], part("filter", filter_)), (["check", "-h"], b"")):
+                             (["check"], filter_of([0])), (["--version"], b""), (["--no-such"], b""),
+                             (["check", "-h"], b"")):
             self.same([PROGRAM], CORE, words, given, env={"PATH": "/nowhere"})
 
     def test_without_a_file_the_program_answers_standard_input(self):

@@ -27,7 +27,7 @@ runpy.run_path(sys.argv[0], run_name="__main__")
 LOST = "# the profile's default allows syscalls: the rules for these names are lost\n"
 
 
-class Check(Case):
+class CheckAndCompile(Case):
     def test_one_and_several(self):
         good, bad, cut = (self.file(name, data) for name, data in (
             ("good.bpf", ret(ALLOW)), ("bad.bpf", jeq(0, 9, 0) + ret(ALLOW)), ("cut.bpf", b"\6\0")))
@@ -40,8 +40,6 @@ class Check(Case):
         self.assertEqual(self.run_tool("check", bad, cut)[0], 1)
         self.assertEqual(self.run_tool("check", good, cut)[0], 2)
 
-
-class Compile(Case):
     def compiled(self, *words, given=b""):
         done = completed([tool("compile"), *words], given, cwd=self.folder)
         return done.returncode, done.stdout, done.stderr.decode()

@@ -60,13 +60,11 @@ class Install(Case):
     def run_installed(self, *words, given=b""):
         return self.run_words(words, given, env={**os.environ, "PATH": f"{self.prefix}/bin:{os.environ['PATH']}"})
 
-    def test_the_links_of_the_readme(self):
+    def test_each_page_that_the_readme_or_a_tool_names_is_installed(self):
         folder = os.path.join(self.once, "share", "doc", "scf")
         links = re.findall(r"\]\(([^)#]+)", text_of(folder, "README.md"))
         self.assertIn("TUTORIAL.md", links)
         self.assertEqual([link for link in links if not os.path.isfile(os.path.join(folder, link))], [])
-
-    def test_each_page_that_a_tool_names_is_installed(self):
         named = set()
         for name in MODULES:
             named.update(re.findall(r"[A-Z]+\.md", text_of(TOP, "tools", name)))
