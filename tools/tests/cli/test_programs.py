@@ -40,17 +40,13 @@ class CheckAndCompile(Case):
         self.assertEqual(self.run_tool("check", bad, cut)[0], 1)
         self.assertEqual(self.run_tool("check", good, cut)[0], 2)
 
-    def compiled(self, *words, given=b""):
-        done = completed([tool("compile"), *words], given, cwd=self.folder)
-        return done.returncode, done.stdout, done.stderr.decode()
-
     def test_it_is_the_filter_of_scf(self):
         given = part("profile", profile_of("read", "openat")) + part("table", bytes_of(TABLE))
         expected = completed([*CORE, "compile"], given, check=True).stdout
-        self.assertEqual(self.compiled(self.file("p.json", profile_of("read", "openat"))), (0, expected, ""))
-        self.assertEqual(self.compiled("-", given=profile_of("read", "openat")), (0, expected, ""))
+        self.assertEqual(self.compile(self.file("p.json", profile_of("read", "openat"))), (0, expected, ""))
+        self.assertEqual(self.compile("-", given=profile_of("read", "openat")), (0, expected, ""))
         table = self.file("own.table", b"look 0\n")
-        status, out, err = self.compiled("--table", table, self.file("q.json", profile_of("look")))
+        status, out, err = self.compile("--table", table, self.file("q.json", profile_of("look")))
         self.assertEqual((status, err), (0, ""))
         self.assertEqual(self.run_tool("run", "--nr", "0", self.file("look.bpf", out))[1].split("\n")[0][:5], "ALLOW")
 
@@ -67,7 +63,7 @@ class CheckAndCompile(Case):
                 (["--native"], "compile: names in the profile that were skipped because no table has them: "
                  f"2\n{unknown}compile: --native leaves out SCMP_ARCH_X86, which the profile also names: {kills}",
                  "KILL_PROCESS")):
-            status, out, err = self.compiled(*words, self.file("p.json", denies))
+            status, out, err = self.compile(*words, self.file("p.json", denies))
             self.assertEqual((status, len(out) % 8, err), (0, 0, says))
             self.assertEqual(self.run_tool("run", "--arch", "0x40000003", "--nr", "7", self.file("made.bpf", out))[
                 1].split()[0], waitpid)
@@ -75,14 +71,14 @@ class CheckAndCompile(Case):
                             (("X86_64", "MIPS"), "compile: the profile's other architectures aren't judged, since scf "
                              f"has no table of them: {kills}")):
             given = {"defaultAction": "SCMP_ACT_ALLOW", "architectures": [f"SCMP_ARCH_{name}" for name in names]}
-            self.assertEqual(self.compiled(self.file("p.json", given))[2], says)
+            self.assertEqual(self.compile(self.file("p.json", given))[2], says)
 
     def test_refusals_go_to_standard_error(self):
         table = self.file("t", b"read\n")
         for words, profile, says in (([], b"{", "fault profile Json\ncompile: the JSON is malformed at line 1"),
                                      ([], b'{"defaultAction":"ALLOW"}', "fault profile Action\ncompile: An action"),
                                      (["--table", table], profile_of("read"), "fault table Form line 1\n")):
-            status, out, err = self.compiled(*words, self.file("p.json", profile))
+            status, out, err = self.compile(*words, self.file("p.json", profile))
             self.assertEqual((status, out), (2, b""))
             self.assertTrue(err.startswith(f"compile: {says}"), err)
 

@@ -280,11 +280,11 @@ class Case(unittest.TestCase):
         self.skip_if(not os.path.exists(log) or not os.path.getsize(log), "strace may not trace here")
         return log, (done.returncode, done.stdout)
 
-    def compile(self, *words):
+    def compile(self, *words, **settings):
         """How `scf compile` ends, the filter that it writes to the file `f.bpf`, and what it says."""
         path = self.file("f.bpf", b"")
         with open(path, "wb") as out:
-            status, _, err = self.run_tool("compile", *words, stdout=out)
+            status, _, err = self.run_tool("compile", *words, stdout=out, **settings)
         return status, bytes_of(path), err
 
     def filter_file(self, *words):
