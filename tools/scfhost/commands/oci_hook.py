@@ -49,7 +49,6 @@ from scftools.forms import runtimes
 from .. import hooks, processes, verify
 
 RELATION_OF_POLICY = {"same": verdicts.SAME, "no-more": verdicts.NO_MORE}
-MOST_SECONDS = 60
 
 
 def read_words():
@@ -73,7 +72,7 @@ def read_words():
     parser.add("--json")
     parser.flag("--print-hook", "print a hooks.d file with the other options")
     options = parser.parse_args()
-    limits = (options.wait, MOST_SECONDS), (options.deadline, hooks.DEADLINE * 10)
+    limits = (options.wait, 60), (options.deadline, hooks.DEADLINE * 10)
     parser.reject(*((not 0 <= seconds <= most, f"'{seconds}' isn't a number of seconds from 0 to {most:g}")
                     for seconds, most in limits),
                   (options.table == "-", "the table can't be '-': standard input is the container's state"))

@@ -64,8 +64,6 @@ from ..ask.client import Fault
 from ..cli import words
 from ..forms import filters, refusals, runtimes
 
-OF_PROFILES = ("native", "strict", "runtime", "caps", "machine", "hot")
-
 # A line of counts: NAME COUNT, or ARCH NAME COUNT; the greatest number that scf takes in a table, and so of counts.
 LINE = Pattern(r"(?:([a-z0-9-]+)[ \t]+)?([A-Za-z_][A-Za-z0-9_]*)[ \t]+([0-9]{1,18})")
 BY_NAME, GREATEST = {architecture.name: architecture for architecture in JUDGED.values()}, (1 << 30) - 1
@@ -145,7 +143,8 @@ def main():
         parser.keep_off_terminal()
     data = inputs.read_input(options.profile, "text") if options.kind else runtimes.text_of(options.profile, options)
     if options.kind or data.isascii() and filters.is_assembler(data.decode("ascii")):
-        words.refuse(options, OF_PROFILES, f"speaks of a profile, and '{options.profile}' is an assembler's text")
+        words.refuse(options, ("native", "strict", "runtime", "caps", "machine", "hot"),
+                     f"speaks of a profile, and '{options.profile}' is an assembler's text")
         done = client.run_scf(["asm"], data)
         sentences = () if done.status == program.SUCCESS else [
             *filters.wrong_word(data.decode("latin-1"), Fault.read(done.line)), *explanation.explain_line(done.line)]

@@ -48,14 +48,11 @@ import os
 
 from ..base import inputs, output, program
 from ..model import tables
-
 from ..cli import words
 from ..forms import operands, runtimes
 from ..forms.profile_inputs import ProfileInput
 from ..report import decisions
 from ..report.blocks import put_block, put_blocks
-
-OF_PROFILES = ("native", "strict", "runtime", "caps", "machine")
 
 
 def read_words():
@@ -88,7 +85,8 @@ def read_input(options):
         return runtimes.input_in(runtimes.text_of(name, options), name, options, options.strict)
     given = operands.read(options.words, options)
     if not isinstance(given, ProfileInput):
-        words.refuse(options, OF_PROFILES, f"speaks of a profile, and '{options.words[0]}' is none")
+        words.refuse(options, ("native", "strict", "runtime", "caps", "machine"),
+                     f"speaks of a profile, and '{options.words[0]}' is none")
     elif options.steps or options.expect is not None:
         return [operands.compiled(options.words[0], given)]
     return given
