@@ -160,5 +160,4 @@ def main():
     report = cause_report.log_report(log, files, options.every)
     if options.pid is not None:
         report.lacking = lacking(options.pid)
-    return put_block(Block(report.status, lambda: cause_report.log_report_lines(report),
-                           lambda: cause_report.log_report_json(report)), options.json)
+    return put_block(Block(report.status, report.lines, report.as_json), options.json)

@@ -65,7 +65,7 @@ class FilterLoads(Confinement):
 
     def end(self, who: str | None) -> None:
         """A process or thread has ended, or the log has."""
-        if self.has(who):
+        if self.filters.get(who):
             self.ended.setdefault(self.filters[who], []).append(who or "")
         self._unfinished.pop(who, None)
         super().end(who)

@@ -18,8 +18,6 @@ from ..model.architectures import I386, JUDGED, NATIVE, X32
 Arguments = "dict[int, tuple[int, ...] | None]"
 # The most bytes that are read of a log, and of an argument.
 LONGEST_LOG, LONGEST_ARGUMENT = 1 << 30, 1 << 12
-# The greatest value of an argument by architectures.
-GREATEST_ARGUMENTS = {name: architecture.greatest for name, architecture in JUDGED.items()}
 # Before a syscall, by strace(1): a process (-f, -Y), a time (-t, -tt, -ttt, -r), the pointer (-i), its number (-n).
 LEADER = Pattern(
     r"(?:\[pid +([0-9]{1,10})(?:<[^>]{0,64}>)?\] |([0-9]{1,10})(?:<[^>]{0,64}>)? +)?"
@@ -94,7 +92,7 @@ def values_of(text: str, architecture: str = NATIVE) -> tuple[int, ...] | None:
     number = _number_in(text, architecture) if len(text) <= LONGEST_ARGUMENT else None
     if number is None or not -(1 << 63) <= number < 1 << 64:
         return None
-    most = GREATEST_ARGUMENTS[architecture]
+    most = JUDGED[architecture].greatest
     if OCTAL.search(text) and 1 << 15 <= number < 1 << 16:
         return tuple(dict.fromkeys((number, number | 0xFFFF << 16, (number | -1 << 16) & most)))
     if -(1 << 31) <= number < 0 or 1 << 31 <= number < 1 << 32:
@@ -163,8 +161,8 @@ def registers_in(text: str, name: re.Match[str], architecture: str = NATIVE, is_
     """The values that the registers of a printed syscall may have, by arguments; `is_raw`: strace printed registers."""
     printed = arguments_in(text, name.end())[0]
     if is_raw:
-        numbers = enumerate(RAW.fullmatch(argument.strip()) for argument in printed)
-        return {at: (int(match[1], 16) & GREATEST_ARGUMENTS[architecture],) if match else None for at, match in numbers}
+        numbers, most = [RAW.fullmatch(argument.strip()) for argument in printed], JUDGED[architecture].greatest
+        return {at: (int(match[1], 16) & most,) if match else None for at, match in enumerate(numbers)}
     return {at: values_of(argument, architecture)
             for at, argument in _in_registers(name[1], printed, architecture).items()}
 
@@ -196,8 +194,5 @@ def log_lines(name: str, most: int = inputs.LONGEST_LINE) -> Iterator[str]:
 
 def is_log(data: bytes) -> bool:
     """Whether some of the first lines of a text are strace's."""
-    for line in data[:inputs.LONGEST_LINE].decode("latin-1").split("\n")[:100]:
-        text = line[LEADER.match(line).end():]
-        if CALL_NAME.match(text) and " = " in text:
-            return True
-    return False
+    lines = data[:inputs.LONGEST_LINE].decode("latin-1").split("\n")[:100]
+    return any(CALL_NAME.match(line, LEADER.match(line).end()) and " = " in line for line in lines)

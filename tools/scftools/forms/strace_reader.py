@@ -79,10 +79,6 @@ class Confinement:
     def process_of(self, who: str | None) -> str | None:
         return self.process.get(who, who)
 
-    def has(self, who: str | None) -> bool:
-        """Whether a thread is under a filter that the log shows."""
-        return bool(self.filters.get(who))
-
     def begins(self, who: str | None, makers: Iterable[str | None]) -> None:
         """A thread has a line: a new one is expected, made by one of these, or the first, which has a number now."""
         if who in self.process:
@@ -321,7 +317,7 @@ class Reader:
         if line.child is not None:
             # a new process begins in the architecture of the one that makes it
             self._architectures.setdefault(line.child, self._architecture_of(line.who))
-        was_shown, is_under = self.confinement.is_shown, self.confinement.has(line.who)
+        was_shown, is_under = self.confinement.is_shown, bool(self.confinement.filters.get(line.who))
         self.confinement.takes(line)
         if self.confinement.is_shown and not was_shown:
             self.show_load()

@@ -117,6 +117,38 @@ class LogReport:
             statuses.add(program.UNKNOWN)
         return client.worst(statuses)
 
+    def lines(self) -> Iterator[str]:
+        """What is printed of all events, and of what else is in the log."""
+        log, denied = self.log, self.denials
+        for cause in self.causes:
+            yield from causes.cause_lines(cause)
+        for number, why in log.faults:
+            yield f"# line {number} isn't judged: {why}" if number else f"# a line isn't judged: {why}"
+        if log.suppressed:
+            yield f"# records that the kernel left out, since too many came at once: {log.suppressed}"
+        if log.beyond:
+            yield f"# records of more syscalls than {EVENTS} different ones, which aren't judged: {log.beyond}"
+        if denied is not None and not (self.causes and log.failures.count == 1):
+            yield from output.notes(denial_lines(self, denied))
+        yield from output.notes(core.describe() for core in log.cores)
+        if not self.causes and not log.faults and not log.failures.count and not log.cores:
+            yield from output.notes(self.lacking)
+
+    def as_json(self) -> dict[str, object]:
+        log, denied, failures = self.log, self.denials, self.log.failures
+        value = {"events": [causes.cause_json(cause) for cause in self.causes],
+                 "faults": [{"line": number, "why": why} for number, why in log.faults],
+                 "suppressed": log.suppressed, "not_judged": log.beyond,
+                 **({"cores": [core.as_json() for core in log.cores]} if log.cores else {})}
+        if denied is None or not failures.count + failures.before_load:
+            return value
+        listed = {name: [{"call": each.event.call.as_json(self.given.table), "errno": each.event.outcome.data,
+                          "count": each.count} for each in its]
+                  for name, its in (("not_shown", denied.of[self.shown:]), ("by_other_cause", denied.by_other_cause))}
+        return {**value, "failures": {
+            "count": failures.count, "denied": denied.count, **listed, "unknown": denied.unknown,
+            "not_judged": failures.beyond, "before_load": failures.before_load}}
+
 
 def log_report(log: EventLog, given: Inputs, is_all: bool) -> LogReport:
     """The causes of a log's events and denials; of a failed syscall if there are none, or scf refuses what is given."""
@@ -135,37 +167,3 @@ def log_report(log: EventLog, given: Inputs, is_all: bool) -> LogReport:
     shown = len(denials) if is_all else SHOWN
     reported = [causes.cause_of(found, given) for found in (*log.events.values(), *denials[:shown])]
     return LogReport(log, given, reported, denied, shown)
-
-
-def log_report_lines(report: LogReport) -> Iterator[str]:
-    """What is printed of all events, and of what else is in the log."""
-    log, denied = report.log, report.denials
-    for cause in report.causes:
-        yield from causes.cause_lines(cause)
-    for number, why in log.faults:
-        yield f"# line {number} isn't judged: {why}" if number else f"# a line isn't judged: {why}"
-    if log.suppressed:
-        yield f"# records that the kernel left out, since too many came at once: {log.suppressed}"
-    if log.beyond:
-        yield f"# records of more syscalls than {EVENTS} different ones, which aren't judged: {log.beyond}"
-    if denied is not None and not (report.causes and log.failures.count == 1):
-        yield from output.notes(denial_lines(report, denied))
-    yield from output.notes(core.describe() for core in log.cores)
-    if not report.causes and not log.faults and not log.failures.count and not log.cores:
-        yield from output.notes(report.lacking)
-
-
-def log_report_json(report: LogReport) -> dict[str, object]:
-    log, denied, failures = report.log, report.denials, report.log.failures
-    value = {"events": [causes.cause_json(cause) for cause in report.causes],
-             "faults": [{"line": number, "why": why} for number, why in log.faults],
-             "suppressed": log.suppressed, "not_judged": log.beyond,
-             **({"cores": [core.as_json() for core in log.cores]} if log.cores else {})}
-    if denied is None or not failures.count + failures.before_load:
-        return value
-    listed = {name: [{"call": each.event.call.as_json(report.given.table), "errno": each.event.outcome.data,
-                      "count": each.count} for each in its]
-              for name, its in (("not_shown", denied.of[report.shown:]), ("by_other_cause", denied.by_other_cause))}
-    return {**value, "failures": {
-        "count": failures.count, "denied": denied.count, **listed, "unknown": denied.unknown,
-        "not_judged": failures.beyond, "before_load": failures.before_load}}

@@ -1,5 +1,4 @@
-"""Events: syscalls that a filter denied, delegated or logged, as far as a log, a core or strace tells of them; and the
-syscalls of a strace log that failed."""
+"""Events: syscalls that a filter denied, delegated or logged, by a log, a core or strace; and what failed in a log."""
 from __future__ import annotations
 
 import functools

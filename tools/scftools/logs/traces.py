@@ -175,7 +175,7 @@ class Trace(Reader):
         else:
             nr -= JUDGED[of].first
             names = self.tables[of].names_of(nr)
-            values = {at: (value & strace.GREATEST_ARGUMENTS[of],) for at, value in arguments.items()}
+            values = {at: (value & JUDGED[of].greatest,) for at, value in arguments.items()}
             self.keep(number, of, names[0] if names else f"syscall_{nr:#x}", values, count)
 
     def _is_record(self, number: int, line: str) -> bool:
