@@ -46,7 +46,7 @@ def denials_of(failures: Failures, given: Inputs) -> Denials:
     key_of: dict[tuple[object, ...], tuple[object, ...]] = {}
     for kind, failure in failures.of.items():
         answers = stack.cases(failure.event)
-        verdict = verdict_of(answers) if answers else None
+        verdict = verdict_of(answers)
         if verdict == CONTRADICTS:
             denials.by_other_cause += [failure] if failure.event.outcome.data == errno.EPERM else []
         elif verdict != FITS:

@@ -79,20 +79,27 @@ def verdict_of(cases: Sequence[Case]) -> str:
     """Whether the filters answer as the event was answered, in some way that its arguments may be."""
     if any(case.fits for case in cases):
         return FITS
-    return CONTRADICTS if all(case.fits is False for case in cases) else UNKNOWN_FIT
+    return CONTRADICTS if cases and all(case.fits is False for case in cases) else UNKNOWN_FIT
 
 
-@dataclass(frozen=True)
 class Side:
     """What a profile, or a stack of filters, answers to an event; or why scf refuses it."""
 
-    # "the profile", "the filter" or "the filters"
-    name: str
-    cases: tuple[Case, ...] = ()
-    verdict: str = UNKNOWN_FIT
-    refusal: client.Refusal | None = None
-    # whether the syscall is of an architecture that the profile names, and that isn't judged
-    is_undetermined: bool = False
+    def __init__(self, name: str, event: Event, stack: Callable[[], AnsweringStack]):
+        # "the profile", "the filter" or "the filters"
+        self.name, self.event = name, event
+        # whether the syscall is of an architecture that the profile names, and that isn't judged
+        self.is_undetermined = False
+        self.cases: tuple[Case, ...] = ()
+        self.refusal: client.Refusal | None = None
+        try:
+            self.cases = stack().cases(event)
+        except client.Refusal as why:
+            self.refusal = why
+
+    @property
+    def verdict(self) -> str:
+        return verdict_of(self.cases)
 
 
 @dataclass(frozen=True)
@@ -163,27 +170,19 @@ class Cause:
                             for side in (self.profile, self.filters) if side is not None)
 
 
-def _side(name: str, stack_of: Callable[[], AnsweringStack], event: Event) -> Side:
-    try:
-        answers = stack_of().cases(event)
-    except client.Refusal as why:
-        return Side(name, refusal=why)
-    return Side(name, answers, verdict_of(answers))
-
-
 def cause_of(found: Found, given: Inputs) -> Cause:
     """What a profile and filters say of an event; the changes allow what several have in common."""
     cause, event = Cause(found, given), found.event
     if given.filters:
         name = "the filter" if len(given.filters) == 1 else "the filters"
-        cause.filters = _side(name, lambda: given.of_filters, event)
+        cause.filters = Side(name, event, lambda: given.of_filters)
     if given.profile is None:
         return cause
-    cause.profile = _side("the profile", lambda: given.of_profile, event)
-    if cause.profile.refusal is None and decisions.is_undetermined(given.reason(event.call), event.call, given.profile,
-                                                                   given.judged):
-        cause.profile = Side("the profile", is_undetermined=True)
-    denied = next((case for case in cause.profile.cases if not case.answer.allows), None)
+    side = cause.profile = Side("the profile", event, lambda: given.of_profile)
+    if side.refusal is None and decisions.is_undetermined(given.reason(event.call), event.call, given.profile,
+                                                          given.judged):
+        side.cases, side.is_undetermined = (), True
+    denied = next((case for case in side.cases if not case.answer.allows), None)
     if denied is not None:
         reason = given.reason(denied.call)
         cause.changes = list(amendment.amendments(given.profile, found.common, reason, given.tables))
@@ -220,7 +219,7 @@ def _of_event(cause: Cause) -> Iterator[str]:
     yield LACKS[event.source]
 
 
-def _of_verdict(side: Side, event: Event) -> str:
+def _of_verdict(side: Side) -> str:
     """Whether a party answers as the event was answered, or how its answers stand beside an event they contradict."""
     s, them, be = ("", "them", "are") if side.name.endswith("s") else ("s", "it", "is")
     if side.verdict == UNKNOWN_FIT:
@@ -230,10 +229,10 @@ def _of_verdict(side: Side, event: Event) -> str:
         return f"so {side.name} answer{s} it" + ("" if is_for_all else " with such arguments, and not with all")
     # (the kernel compares these as signed numbers, the least is the strictest: seccomp_run_filters, kernel/seccomp.c)
     halves = [case.answer.word >> 16 for case in side.cases]
-    ranks, of_event = ([half ^ 0x8000 for half in each] for each in (halves, event.outcome.halves))
+    ranks, of_event = ([half ^ 0x8000 for half in each] for each in (halves, side.event.outcome.halves))
     others = f"another filter of the process answered so, or it isn't under {side.name}"
     if min(ranks) > max(of_event):
-        itself = "the kernel itself, or " if event.outcome.is_result else ""
+        itself = "the kernel itself, or " if side.event.outcome.is_result else ""
         return f"{side.name} {be} more permissive: {itself}{others}"
     if max(ranks) < min(of_event):
         return f"{side.name} would have answered more strictly: the process isn't under {them}"
@@ -263,7 +262,7 @@ def _of_side(side: Side | None, cause: Cause, of_case: Callable[[Case, Cause], I
             if (answer, case.is_for_all) not in shown:
                 yield from (answer, *rest)
             shown.add((answer, case.is_for_all))
-        yield from output.notes([_of_verdict(side, cause.event)])
+        yield from output.notes([_of_verdict(side)])
 
 
 def _of_profile(case: Case, cause: Cause) -> Iterator[str]:
