@@ -1,7 +1,30 @@
 """Tests of what reads logs: `needs`, `record` and `why`."""
+import socket
+import struct
+
+from support.common import PATIENCE
 from support.oci import ERRNO, entry
 
-__all__ = ("entry", "read_log", "rules", "where")
+__all__ = ("Listener", "entry", "read_log", "rules", "where")
+NETLINK_AUDIT, SO_RCVBUFFORCE, SECCOMP_RECORD = 9, 33, 1326
+
+
+class Listener:
+    """Listens to the kernel's audit records (linux/audit.h: AUDIT_NLGRP_READLOG), as journald does."""
+
+    def __init__(self):
+        self.socket = socket.socket(socket.AF_NETLINK, socket.SOCK_RAW, NETLINK_AUDIT)
+        self.socket.setsockopt(socket.SOL_SOCKET, SO_RCVBUFFORCE, 1 << 24)
+        self.socket.bind((0, 1))
+        self.socket.settimeout(PATIENCE)
+
+    def records_of(self, process):
+        """The records of a process that seccomp has."""
+        while True:
+            message = self.socket.recv(1 << 16)
+            text = message[16:].decode("latin-1").rstrip("\0\n")
+            if struct.unpack_from("<IH", message)[1] == SECCOMP_RECORD and f" pid={process} " in text:
+                yield f"audit: type=1326 {text}"
 
 
 def where(index, op, value, two=None):

@@ -12,16 +12,16 @@ import types
 import unittest
 import unittest.mock
 
-from support.common import (ALLOW, I386, KILL_PROCESS, KILL_THREAD, LOADER, LOG, PATIENCE, TRACE, TRAP, USER_NOTIF,
+from support.common import (ALLOW, I386, KILL_PROCESS, KILL_THREAD, LOADER, LOG, TRACE, TRAP, USER_NOTIF,
                             X86_64, Case, bytes_of, completed, jeq, module, profile_of, ret, sample, text_of)
-from logs import entry, where
+from logs import NETLINK_AUDIT, Listener, entry, where
 from scftools.model import bpf, tables
 from scftools.forms.filters import Filter
 from scftools.logs import audit_records, cores, events, journals
 from scftools.logs.causes import Inputs
 
 TABLE = tables.read_table(None)
-SOCKET, AF_NETLINK, NETLINK_AUDIT = 41, 16, 9
+SOCKET, AF_NETLINK = 41, 16
 # linux/seccomp.h
 ERRNO, UNNAMED, WITH_LOG = 0x50000, 0x12340000, 2
 # A record of Linux 6.18.
@@ -53,24 +53,6 @@ THREADS = CONFINES + sample("confined_threads.c")
 def answering(answer, number=SOCKET, conditions=()):
     """A filter that gives an answer to a syscall, where each of the conditions' arguments has its value."""
     return bpf.with_exception(ret(ALLOW), number, [(at, (1 << 64) - 1, value) for at, value in conditions], answer)
-
-
-class Listener:
-    """Listens to the kernel's audit records (linux/audit.h: AUDIT_NLGRP_READLOG), as journald does."""
-
-    def __init__(self):
-        self.socket = socket.socket(socket.AF_NETLINK, socket.SOCK_RAW, NETLINK_AUDIT)
-        self.socket.bind((0, 1))
-        self.socket.settimeout(PATIENCE)
-
-    def record_of(self, process):
-        """The record of a process that seccomp has."""
-        while True:
-            message = self.socket.recv(1 << 16)
-            if struct.unpack_from("<IH", message)[1] == 1326:
-                text = message[16:].decode("latin-1").rstrip("\0\n")
-                if f" pid={process} " in text:
-                    return f"audit: type=1326 {text}"
 
 
 def why_not_here():
@@ -126,7 +108,7 @@ class Records(Causes):
         listener = Listener()
         try:
             process = self.confined(*stack, **settings)[0]
-            return process, listener.record_of(process)
+            return process, next(listener.records_of(process))
         finally:
             listener.socket.close()
 

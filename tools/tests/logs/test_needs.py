@@ -58,8 +58,7 @@ class Values(unittest.TestCase):
             self.assertEqual(strace.values_of(text), (value,), text)
 
     def test_upper_bits(self):
-        """An upper half is zero or the sign. The kernel takes a mode as umode_t, which is an unsigned short
-        (linux/types.h), and strace prints that."""
+        """An upper half is zero or the sign. A mode is an unsigned short (umode_t), and so strace prints it."""
         for text, number in (("-1", -1), ("-100", -100), ("AT_FDCWD", -100), ("AT_FDCWD</tmp>", -100),
                              ("-2147483648", -(1 << 31)), ("0xffffffff", -1), ("4294967295", -1),
                              ("0x80000000", -(1 << 31)), ("CLONE_IO|SIGCHLD", 17 - (1 << 31)),
@@ -115,8 +114,7 @@ class Forms(unittest.TestCase):
             self.assertEqual((list(calls.values()), unread), ([1], 0), text)
 
     def test_each_form(self):
-        """What is no call; texts that look unfinished, and a message in the midst of a line; arguments by name and in
-        another order; and a call without a name."""
+        """No call; texts that look unfinished; a message within a line; named or reordered arguments; no name."""
         text = ("--- SIGCHLD {si_signo=SIGCHLD, si_pid=7} ---\n1234  --- SIGINT {si_signo=SIGINT} ---\n"
                 "+++ exited with 0 +++\n[pid 7] +++ killed by SIGKILL (core dumped) +++\n"
                 "strace: Process 12 attached\nstrace: Process 12 detached\n > /usr/lib/x.so(read+0x1) [0x12]\n\n")
@@ -430,8 +428,7 @@ class InArchitectures(Judgement):
              "dup(8) = 9\n")
 
     def test_a_part_in_32_bit_mode(self):
-        """By asm/unistd_32.h open is 5, dup 41 and socket 359. Only the low half of an argument of i386 counts: -1 is
-        0xffffffff, and no call has 0x100000008."""
+        """By asm/unistd_32.h open is 5, dup 41, socket 359. Of i386's arguments only the low half counts."""
         dispositions, report, out = self.judged(f"read(3) = 1\nclose(-1) = 0\n{self.MODE}{self.CALLS}", 1)
         self.assertEqual(dispositions, {
             "read": "allowed", "close": "depends", "i386 read": "allowed", "i386 open": "not allowed",
@@ -585,8 +582,7 @@ class Least(Judgement):
         self.assertEqual((status, json.loads(out)["syscalls"]), (0, [entry("read", "exit")]))
 
     def test_arguments_that_are_not_known(self):
-        """PROFILE's conditions stay, also where its default allows; of a value whose upper half isn't known those that
-        it allows."""
+        """PROFILE's conditions stay, also if its default allows; of a half-known value those that it allows."""
         log = "socket(AF_NONE, 1, 0) = 3\nsocket(1, 1, 0) = 3\nwait4(-1, NULL, 0, NULL) = 3\n"
         denying = {"defaultAction": ALLOW, "syscalls": [
             entry(name, action=ERRNO, args=[where(0, "EQ", value)])
@@ -616,8 +612,7 @@ class Least(Judgement):
     CLONE3 = "7 clone3({flags=CLONE_VM|CLONE_THREAD, exit_signal=0}, 88) = "
 
     def test_fallbacks(self):
-        """What a program falls back to after ENOSYS stays as it is, whether the log shows the newer syscall executed,
-        failed, or not at all."""
+        """What follows ENOSYS stays, whether the log shows the newer syscall executed, failed, or not at all."""
         clone, clone3 = self.CLONES["syscalls"][1], entry("clone3", action=ERRNO, errnoRet=38)
         forked = "7 clone(child_stack=NULL, flags=CLONE_CHILD_SETTID|SIGCHLD, child_tidptr=0x7f) = 9\n"
         exact = self.equal("clone", 0x1000011)
@@ -634,8 +629,7 @@ class Least(Judgement):
         self.assertIn("denies it: 435 clone3 ERRNO 38 entry ", self.least(f"{self.CLONE3}8\n", without, 1)[1])
 
     def test_what_fails_as_the_base_answers(self):
-        """It isn't allowed; what a program tries next may depend on the errno. Under a filter that the log shows it is
-        that filter's denial, which --widen takes away."""
+        """It isn't allowed, since what follows may depend on the errno; --widen allows it if a filter is shown."""
         log = ("7 read(3) = 1\n7 chroot(\"/\") = -1 EPERM (Operation not permitted)\n"
                "7 statx(1) = -1 ENOSYS (Function not implemented)\n")
         made, err = self.least(log, self.CLONES)
@@ -911,8 +905,7 @@ for number, *arguments in eval(sys.argv[1]):
         return made
 
     def test_calls_of_a_32_bit_program(self):
-        """By asm/unistd_32.h getpid is 20, personality 136, dup 41, alarm 27, socket 359 and socketcall 102, where 1 is
-        socket."""
+        """By asm/unistd_32.h getpid is 20, personality 136, dup 41, alarm 27, socket 359, socketcall 102."""
         denied = [("getpid", 0, None, 0), ("personality", 0, "SCMP_CMP_EQ", 0xFFFFFFFF),
                   ("dup", 0, "SCMP_CMP_EQ", (1 << 32) + 99), ("socket", 0, "SCMP_CMP_EQ", 40),
                   ("alarm", 0, "SCMP_CMP_GT", 0xFFFFFFF0), ("socketcall", 0, "SCMP_CMP_EQ", 1)]

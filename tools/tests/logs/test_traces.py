@@ -6,7 +6,6 @@ import os
 import re
 import shutil
 import socket
-import struct
 import subprocess
 import sys
 import unittest
@@ -15,13 +14,11 @@ from support.common import CONFINED, Case, bytes_of, completed, profile_of, samp
 from support.containers import Box
 from support.oci import ERRNO
 from forms.test_runtimes import config
-from logs import entry, read_log, rules
+from logs import Listener, entry, read_log, rules
 from scftools.model import architectures, tables
 from scftools.forms import runtimes
 from scftools.logs import least_profile
 
-NETLINK_AUDIT, SO_RCVBUFFORCE = 9, 33
-SECCOMP_RECORD = 1326
 TIMES = "11/27/26 05:35:00.752"
 RECORD = ('pid=7 comm="x" exe="/x" sig=0 arch=c000003e syscall={} compat=0 ip=0x7f code=0x7ffc0000')
 SYSCALL = ('type=SYSCALL msg=audit(1795757700.752:4): arch={} syscall={} success=yes exit=3 a0={} a1=7f3 a2=80000 a3=0 '
@@ -93,23 +90,21 @@ class Written(Case):
     def test_records_of_seccomp(self):
         """Of a program under a profile that logs each syscall."""
         try:
-            listener = socket.socket(socket.AF_NETLINK, socket.SOCK_RAW, NETLINK_AUDIT)
-            listener.setsockopt(socket.SOL_SOCKET, SO_RCVBUFFORCE, 1 << 24)
-            listener.bind((0, 1))
+            listener = Listener()
         except OSError as error:
             self.skipTest(f"the kernel's audit records can't be heard here: {error.strerror}")
-        self.addCleanup(listener.close)
+        self.addCleanup(listener.socket.close)
         filters = self.filter_file(self.file("p.json", profile_of(default="SCMP_ACT_LOG")))
         child = subprocess.Popen([sys.executable, "-ISc", CONFINED, filters, shutil.which("true")])
         child.wait()
         # the kernel's thread hands them on when it runs; the last is that of exit_group
-        listener.settimeout(30)
+        listener.socket.settimeout(30)
         records = []
         with contextlib.suppress(socket.timeout):
-            while not (records and " syscall=231 " in records[-1]):
-                message = listener.recv(1 << 16)
-                if struct.unpack_from("<IH", message)[1] == SECCOMP_RECORD and b" pid=%d " % child.pid in message:
-                    records.append("audit: type=1326 " + message[16:].decode("latin-1").rstrip("\0\n"))
+            for record in listener.records_of(child.pid):
+                records.append(record)
+                if " syscall=231 " in record:
+                    break
         log = self.file("log", "\n".join(records))
         found = json.loads(self.output_of(1, "needs", "--json", log, self.file("q.json", profile_of())))
         expected = calls_of(text_of(self.strace(shutil.which("true"))[0]))[0]
@@ -147,9 +142,8 @@ class Lines(unittest.TestCase):
                          ({"read": 2, "syscall_0x3e7": 1}, 1, 1, 12))
 
     def test_records_of_other_architectures(self):
-        """linux/audit.h: AUDIT_ARCH_I386, _AARCH64, _ARM, _RISCV64, _MIPSEL and _S390X. An x32 number has 0x40000000
-        added. By the headers openat is 295 on i386, 56 on aarch64 and riscv64, 322 on arm, 257 on x32 and 4288 on
-        mipsel."""
+        """By linux/audit.h; an x32 number has 0x40000000 added. By the headers openat is 295 on i386, 56 on aarch64 and
+        riscv64, 322 on arm, 257 on x32 and 4288 on mipsel."""
         for arch, number, name in (("40000003", 295, "i386"), ("c00000b7", 56, "aarch64"), ("40000028", 322, "arm"),
                                    ("c000003e", 0x40000000 + 257, "x32"), ("i386", "openat", "i386"),
                                    ("aarch64", "openat", "aarch64"), ("c00000f3", 56, "riscv64"),
@@ -307,8 +301,7 @@ class Containers(Case):
         return {**json.loads(out), "architectures": ["SCMP_ARCH_X86_64"]}
 
     def run_container(self, runtime, seccomp, is_created=False, tracer=(), **process):
-        """What a container prints, on request one that is created and then started, as engines have it done, and by a
-        runtime that a tracer starts."""
+        """What a container prints, also of one that is created, then started, and of a traced runtime."""
         whole = config(seccomp)
         whole["process"].update({"args": ["/bin/busybox", "echo", "begun"], **process})
         read, write = os.pipe()
@@ -360,8 +353,7 @@ class Containers(Case):
         self.assertEqual(self.run_container(runtime, json.loads(out), args=args), "begun\n")
 
     def starts_nothing(self, runtime):
-        """`lint` says so of a profile under which it is so: where it denies or kills for what the runtime calls itself,
-        with and without noNewPrivileges."""
+        """`lint` says so of profiles that deny or kill for what the runtime calls, with or without noNewPrivileges."""
         own, killing = runtimes.OWN_CALLS[runtime], "SCMP_ACT_KILL_PROCESS"
         for calls, action, starts in (
                 (own.denied, ERRNO, (False, False)), (own.killed, killing, (False, False)),

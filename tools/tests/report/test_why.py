@@ -13,6 +13,7 @@ from support.common import (ALLOW, EPERM, I386, KILL_PROCESS, X86_64, Case, come
 from support.stand_in import StandIn
 import kernel_profiles
 import kernel_programs
+from scftools.base.values import unless_refused
 from scftools.model import tables
 from scftools.model.calls import Call
 from scftools.ask import explanation
@@ -25,18 +26,8 @@ NATIVE = load(4) + jeq(X86_64, 1, 0) + ret(KILL_PROCESS) + load(0) + insn(0x35, 
 
 def innermost(pid):
     """The last child of the last child of a process, and so on."""
-    try:
-        children = text_of(f"/proc/{pid}/task/{pid}/children").split()
-    except OSError:
-        return pid
+    children = unless_refused("", text_of, f"/proc/{pid}/task/{pid}/children").split()
     return innermost(int(children[-1])) if children else pid
-
-
-def is_program(pid, name):
-    try:
-        return text_of(f"/proc/{pid}/comm") == f"{name}\n"
-    except OSError:
-        return False
 
 
 def random_filter(random_of):
@@ -351,7 +342,8 @@ class Behind(Case):
         jail = subprocess.Popen(["firejail", "--quiet", "--noprofile", "--seccomp", "cat"], stdin=subprocess.PIPE,
                                 stdout=subprocess.DEVNULL, stderr=subprocess.DEVNULL)
         try:
-            comes(lambda: is_program(innermost(jail.pid), "cat") or jail.poll() is not None)
+            comes(lambda: unless_refused("", text_of, f"/proc/{innermost(jail.pid)}/comm") == "cat\n"
+                  or jail.poll() is not None)
             self.skip_if(jail.poll() is not None, "firejail doesn't run here")
             pid = innermost(jail.pid)
             profile = self.file("p.json", b'{"defaultAction":"SCMP_ACT_ALLOW","syscalls":[{"names":["clone"],'
