@@ -16,8 +16,7 @@ from .strace_reader import Confinement, Line
 MOST_LOADS, LONGEST_LOAD = 4096, 1 << 20
 TRACED_CALLS = "seccomp,prctl,clone,clone3,fork,vfork"
 PROGRAM = Pattern(r"\{len=([0-9]{1,5}), filter=(?:\[(.*)\]|(0x[0-9a-f]+|NULL))\}", re.S)
-# The different stacks of filters, oldest first, but for that without a filter, each with the numbers of the processes
-# and threads that ended with it; one that was alone may have no number.
+# Each stack of filters, oldest first, and the numbers of those that ended with it; one that was alone may have none.
 Stacks = "dict[tuple[bytes, ...], list[str]]"
 
 

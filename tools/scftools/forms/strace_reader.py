@@ -1,5 +1,4 @@
-"""Reads logs of strace: joins what other processes and strace's messages interrupt, and knows which architecture each
-process runs, and whether the log shows a filter that it is under."""
+"""Reads logs of strace: joins what is interrupted, and knows each process's architecture and filters."""
 from __future__ import annotations
 
 import functools
@@ -172,8 +171,7 @@ class Reader:
         """The line is read."""
 
     def take_call(self, line: Line, architecture: str, is_judged: bool) -> None:
-        """A syscall; its architecture is empty if none has the printed number. It isn't to be judged if the log shows a
-        filter being loaded, and not that the process is under one."""
+        """A syscall, of no architecture if none has its number; not judged if just others are under a filter."""
 
     def show_load(self) -> None:
         """The log shows the first filter being loaded: what stands before isn't made under one."""

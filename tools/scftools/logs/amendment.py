@@ -95,8 +95,7 @@ class AmendmentSearch:
         return {"names": [self.name], "action": ALLOW_ACTION, **({"args": conditions} if conditions else {})}
 
     def _by_entry(self, place: int, conditions: list[dict[str, object]]) -> Iterator[Amendment]:
-        """Changes of an entry that denies, to one that doesn't deny the calls with all of these arguments. Each of its
-        own conditions must be on one of them, and for one value."""
+        """Changes of an entry to deny all but the calls with these arguments; it may test these alone, by EQUAL."""
         entry = self.top["syscalls"][place]
         present = {condition["index"]: condition for condition in entry.get("args") or []}
         indices = {condition["index"] for condition in conditions}

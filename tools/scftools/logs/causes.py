@@ -34,8 +34,7 @@ LACKS = {
 
 @dataclass(frozen=True)
 class Case:
-    """The answer to a call: to it alone, or to all calls with the known arguments; and whether that is what is known of
-    the answer. None if neither that nor the contrary was shown."""
+    """The answer to a call, or to all with the known arguments; whether it fits the event, None if not known."""
 
     call: Call
     answer: Answer

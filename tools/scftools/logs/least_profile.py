@@ -24,8 +24,7 @@ from .events import ways_of
 from .requirements import NOT_ALLOWED, Judges, NeededCall, Needs, log_remarks
 from .traces import Seen
 
-# What each least profile allows where the base does and an architecture has it: a process calls these, which a log
-# needn't show, to continue after a stop or a signal, and to end.
+# Each least profile allows these if the base does: processes continue or end by them, which a log needn't show.
 ALWAYS_CALLED = ("restart_syscall", "rt_sigreturn", "exit", "exit_group", "sigreturn")
 # The most entries with conditions for one name.
 CONDITIONS = 64

@@ -168,8 +168,7 @@ class Judge:
                        answers=frozenset(region.answer for _, region in denied))
 
     def alternatives(self, needed: NeededCall) -> list[Alternative]:
-        """The conditions of which some hold of exactly those arguments with which a syscall is allowed, as far as the
-        regions say; none if there are none, or too many."""
+        """Conditions of which some hold of just the allowed arguments, by the regions; none if none or too many."""
         sets = Sets(needed.architecture.bits, Steps())
         try:
             allowed = sets.union(arguments_of(sets, region) for region in self._lookup.of_number(needed.call)

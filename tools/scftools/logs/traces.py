@@ -230,8 +230,7 @@ class Trace(Reader):
         else:
             self._by_name(number, f"{name} or {SEVERAL[name]}" if name in SEVERAL else SYSDIG_NAMES.get(name, name))
 
-    # What programs beside strace write: what each such line has somewhere, its pattern, and what takes it, unless that
-    # says that it didn't. (A heading has no syscall.)
+    # What other programs write: a mark in each such line, its pattern, and what takes it, unless that returns False.
     _FORMATS = (
         ("", LOSSES, lambda self, _, match: self.unjudged.update({LOST: int(match[1] or match[2])})),
         ("): ", PERF, _take_perf), ("@", MAP, _take_map), ("sys_enter: NR ", SYS_ENTER, _take_sys_enter),
@@ -256,8 +255,7 @@ class Trace(Reader):
 
 def read_traces(names: Sequence[str], looked_at: Callable[[str, str], tuple[int, ...]], tables: dict[str, Table],
                 architecture: str) -> Trace:
-    """The contents of some logs (`-` is standard input), with the requested arguments of each syscall. A log may be a
-    profile, too, as an object or as Kubernetes' YAML."""
+    """The contents of logs (`-` is standard input), with the requested arguments; a log may be a profile."""
     trace = Trace(looked_at, tables, architecture)
     for name in names:
         trace.begin(name)

@@ -34,8 +34,7 @@ SIGN = Pattern(rb"(?m)^(?:--)?(?:seccomp(?:\.(?:32\.)?(?:drop|keep)|\.32|\.block
 # Where firejail keeps the files that profiles include and its configuration, and its compiler of filters.
 PROFILES, CONFIGURATION = "/etc/firejail", "firejail.config"
 COMPILERS = tuple(f"/usr/{path}/firejail/fseccomp" for path in ("lib/x86_64-linux-gnu", "lib", "lib64", "local/lib"))
-# The deepest nesting of includes, and the most files; the most words of a line that `ignore` compares; how long the
-# compiler may take, in seconds, and how much it may write.
+# The most nested includes, files, and words of a line that `ignore` compares; the compiler's seconds and bytes.
 DEEPEST_INCLUDE, MOST_INCLUDED, MOST_IGNORED, COMPILER_SECONDS, MOST_FILTER_BYTES = 16, 64, 8, 10, 1 << 15
 # The instructions of its filters before those of syscalls, of which each compares a number.
 HEAD_INSTRUCTIONS = 7
@@ -81,8 +80,7 @@ def table_names() -> frozenset[str] | None:
 
 
 def group_numbers(group: str) -> list[int]:
-    """The numbers of a group's syscalls, as the installed firejail compiles them into a filter that denies them, and
-    into a second one for those that firejail needs itself."""
+    """A group's syscalls: the installed firejail compiles a filter that denies them, and one for those it needs."""
     import tempfile  # pylint: disable=import-outside-toplevel
 
     with tempfile.TemporaryDirectory() as folder:
@@ -96,8 +94,7 @@ def group_numbers(group: str) -> list[int]:
 
 
 class ProfileReader:
-    """What a profile and the files that it includes state, each setting with its line of the profile; and the syscalls
-    of its lists, by the names that firejail knows."""
+    """What a profile and its includes state, each setting with its line; lists, by the names that firejail knows."""
 
     def __init__(self, ask: Callable[[str], list[int]] = group_numbers):
         self.settings: dict[str, tuple[str, int]] = {}

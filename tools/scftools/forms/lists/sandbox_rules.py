@@ -1,5 +1,4 @@
-"""The rules of a sandbox's own list of syscalls, and their OCI profile, in which the comment of an entry has the lines
-of the list that it stands on."""
+"""The rules of a sandbox's own list of syscalls, and their OCI profile, whose comments name the lines of the list."""
 from __future__ import annotations
 
 import json
@@ -66,8 +65,7 @@ class Policy:
         self.rules.append(rule)
 
     def add_known(self, rules: Iterable[Rule]) -> None:
-        """Adds the rules whose answer isn't the default's and whose names libseccomp knows, with a remark on the names
-        that it doesn't, which the sandbox leaves out."""
+        """Adds the rules that differ from the default; names that libseccomp lacks are left out, with a remark."""
         number_of, unknown = knows(), {}
         for rule in rules:
             if number_of(rule.name, NATIVE) is None:

@@ -27,8 +27,7 @@ from ...model.entries import GREATEST_VALUE, Alternative, Condition
 
 # The versions of systemd whose rules these are, as texts and by the first number; from the second number on.
 VERSIONS, KNOWN = "252.39 and 257.13", {252: 39, 257: 13}
-# From which version on MemoryDenyWriteExecute= has no filter where the kernel has PR_SET_MDWE (NEWS of systemd 254),
-# and PR_GET_MDWE of linux/prctl.h.
+# From this version on PR_SET_MDWE, if there, replaces MemoryDenyWriteExecute='s filter (NEWS); linux/prctl.h.
 WITH_PRCTL, GET_MDWE = 254, 66
 EPERM, EAFNOSUPPORT = Answer("ERRNO", 1), Answer("ERRNO", 97)
 # The names of namespaces in RestrictNamespaces= (src/basic/namespace-util.c).
@@ -129,8 +128,7 @@ def _namespaces(text: str, _: str) -> Rules:
 
 
 def _families(text: str, architecture: str) -> Rules:
-    """RestrictAddressFamilies=: families that are permitted, or after `~` that aren't. i386 has socketcall(2), which
-    can't be looked at, so that no filter is made for it."""
+    """RestrictAddressFamilies=: those permitted, or after `~` not; on i386 socketcall(2) can't be looked at."""
     names = text.lstrip("~").split()
     constant_values = constants.numbers()
     if not all(name.startswith("AF_") and name in constant_values for name in names):
