@@ -8,7 +8,7 @@ from collections.abc import Callable, Iterator, Sequence
 from ..base import output, program
 from ..base.values import dataclass, field, replace
 from ..model import tables
-from ..model.answers import ERRNOS, Answer
+from ..model.answers import ACTIONS, ERRNOS, Answer
 from ..model.architectures import NATIVE
 from ..model.calls import Call
 from ..model.tables import Table, Tables
@@ -226,12 +226,13 @@ def _of_verdict(side: Side) -> str:
     if side.verdict == FITS:
         is_for_all = all(case.fits and case.is_for_all for case in side.cases)
         return f"so {side.name} answer{s} it" + ("" if is_for_all else " with such arguments, and not with all")
+    outcome = side.event.outcome
     # (the kernel compares these as signed numbers, the least is the strictest: seccomp_run_filters, kernel/seccomp.c)
-    halves = [case.answer.word >> 16 for case in side.cases]
-    ranks, of_event = ([half ^ 0x8000 for half in each] for each in (halves, side.event.outcome.halves))
+    ranks = [case.answer.word >> 16 ^ 0x8000 for case in side.cases]
+    of_event = [half ^ 0x8000 for half, name in ACTIONS.items() if name in outcome.actions] or [outcome.half ^ 0x8000]
     others = f"another filter of the process answered so, or it isn't under {side.name}"
     if min(ranks) > max(of_event):
-        itself = "the kernel itself, or " if side.event.outcome.is_result else ""
+        itself = "the kernel itself, or " if outcome.is_result else ""
         return f"{side.name} {be} more permissive: {itself}{others}"
     if max(ranks) < min(of_event):
         return f"{side.name} would have answered more strictly: the process isn't under {them}"

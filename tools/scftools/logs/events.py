@@ -42,12 +42,6 @@ class Outcome:
     data: int | None = None
     is_result: bool = False
 
-    @property
-    def halves(self) -> list[int]:
-        """The high halves that the answer may have, but those of actions without a name that aren't known."""
-        named = [half for half, name in ACTIONS.items() if name in self.actions]
-        return named if self.half is None else [*named, self.half]
-
     def has(self, answer: Answer) -> bool:
         """Whether this may be the answer."""
         if answer.action not in self.actions:

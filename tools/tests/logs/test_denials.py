@@ -111,15 +111,6 @@ class Traced(Denials):
         words = map(repr, (status, before, of_child, after))
         return text_of(self.strace("-f", sys.executable, "-ISc", UNDER, filters, *words)[0])
 
-    def test_the_most_telling_first(self):
-        """What a process ended after comes before what was tried once, and that before what was tried again."""
-        log = self.traced([], [(3, SOCKET, 16, 3, 0)], [(2, SETHOSTNAME, 0, -1), (1, CHROOT, 0)], 0)
-        self.assertEqual(self.denied(log), (0, [("chroot", 1), ("sethostname", 2), ("socket", 3)]))
-        log = self.traced([], [(1, SOCKET, 16, 3, 0)], [(1, CHROOT, 0), (2, SETHOSTNAME, 0, -1)], 3)
-        self.assertEqual(self.denied(log), (0, [("sethostname", 2), ("chroot", 1), ("socket", 1)]))
-        lines = self.why(log)[1]
-        self.assertEqual(lines.index("# it is the last denied syscall of a process that ended with a failure"), 1)
-
     def test_only_what_the_profile_answers(self):
         """The kernel itself answers to a socket of no family with the errno of the entry for AF_NETLINK."""
         log = self.traced([(2, CHROOT, -1)], [(3, SOCKET, 16, 3, 0), (1, SOCKET, 77, 1, 0)], [(1, UNSHARE, 1)])
@@ -213,6 +204,8 @@ class Logs(Denials):
             self.assertEqual(self.lines_of(f"7  {DENIED}", f"7  {socket}", f"7  {socket}",
                                            '7  openat(AT_FDCWD, "x", O_RDONLY) = -1 ENOENT (No such file or directory)',
                                            f"7  +++ {end} +++"), [("socket", 2), ("chroot", 1)])
+        lines = self.why(f"7  {DENIED}\n7  +++ exited with 1 +++\n")[1]
+        self.assertEqual(lines[1], "# it is the last denied syscall of a process that ended with a failure")
         for end in ("exited with 0", ""):
             self.assertEqual(self.lines_of(f"7  {DENIED}", f"7  {socket}", f"7  {socket}", f"7  +++ {end} +++"),
                              [("chroot", 1), ("socket", 2)])

@@ -884,11 +884,9 @@ until curl -s http://127.0.0.1:$p/; do sleep 0.1; done; kill -QUIT $!; wait $!""
                                       "sh", program], stdin=file, timeout=120)
                 self.assertEqual((done.returncode, done.stdout.decode()), (0, out), done.stderr)
 
-    # Makes calls, under a filter where one is given, and prints for each whether it failed with errno 77.
+    # Makes calls, and prints for each whether it failed with errno 77.
     CALLS = LOADER + """
 library.syscall.restype = ctypes.c_long
-if len(sys.argv) > 2 and load(open(sys.argv[2], "rb").read()) < 0:
-    sys.exit(99)
 for number, *arguments in eval(sys.argv[1]):
     failed = library.syscall(*map(ctypes.c_long, (number, *arguments))) == -1 and ctypes.get_errno() == 77
     print(int(failed))
@@ -951,9 +949,7 @@ for number, *arguments in eval(sys.argv[1]):
         numbered = repr([(TABLE.number_of(name), *arguments) for name, *arguments in calls])
         profile, looked = self.file("p.json", denied), {entry["names"][0]: entry["args"][0]["index"]
                                                                     for entry in denied["syscalls"]}
-        done = self.run_words([sys.executable, "-IS", "-c", self.CALLS, numbered, self.filter_file(profile)])
-        self.skip_if(done[0] == 99, "no filter can be installed here")
-        failed = [line == "1" for line in done[1].split()]
+        failed = [line == b"1" for line in self.ended(profile, sys.executable, "-ISc", self.CALLS, numbered)[1].split()]
         self.assertEqual((len(failed), sum(failed)), (len(calls), 7))
         for options in ((), ("-X", "raw"), ("-X", "verbose"), ("-y",), ("-e", "raw=all")):
             log, _ = self.strace("-f", *options, sys.executable, "-IS", "-c", self.CALLS, numbered)
