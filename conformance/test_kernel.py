@@ -28,7 +28,7 @@ from scftools.base.values import replace  # noqa: E402
 from scftools.model.answers import ALLOW as ALLOWED, DENIED, I386_NUMBER, X86_64, Answer  # noqa: E402
 from scftools.model.calls import Call  # noqa: E402
 from scftools.ask import regions  # noqa: E402
-from scftools.forms import filter_loads, strace  # noqa: E402
+from scftools.forms import strace, strace_reader  # noqa: E402
 from support.common import ALLOW, Case, insn, jeq, load, ret, sample, taken  # noqa: E402
 from support.stand_in import OF_ANSWERS, OF_CHECKER, StandIn  # noqa: E402
 
@@ -137,7 +137,7 @@ LOADING = (("man", "-P", "cat", "ls"), ("chronyd", "-Q", "-F", "1", "-t", "1", "
            ("tor", "--Sandbox", "1", "--DisableNetwork", "1", "--SocksPort", "0", "--DataDirectory", "{folder}/tor",
             "-f", "{folder}/none"),
            ("firejail", "--noprofile", "--quiet", "--seccomp", "true"))
-STRACE = ("strace", "-f", "-v", "-e", f"trace={filter_loads.TRACED_CALLS}", "-e", "signal=none", "-o")
+STRACE = ("strace", "-f", "-v", "-e", f"trace={strace_reader.TRACED_CALLS}", "-e", "signal=none", "-o")
 # Answers to numbers whose syscalls would end or change the child if they were executed.
 EACH = {231: ALLOW, 59: 0x7FFC0000, 57: 0x7FF00007, 9: 0x7FC00000, 11: 0x00050001, 3: 0x0005FFFF, 1: 0x00030005,
         0: 0x00000000, 60: 0x80000000, 62: 0x7FBF0000, 63: 0x7FFB0000}
@@ -153,7 +153,7 @@ class Regions(Asked):
         program = [word.format(folder=self.folder) for word in words]
         subprocess.run([*STRACE, log, "timeout", "--signal=KILL", "3", *program],
                        stdin=subprocess.DEVNULL, stdout=subprocess.DEVNULL, stderr=subprocess.DEVNULL, check=False)
-        stacks = filter_loads.stacks_in(strace.log_lines(log, filter_loads.LONGEST_LOAD))
+        stacks = strace_reader.stacks_in(strace.log_lines(log, strace_reader.LONGEST_LOAD))
         return [[self.file(f"{words[0]}.{stack}.{at}", data) for at, data in enumerate(filters)]
                 for stack, filters in enumerate(stacks)]
 

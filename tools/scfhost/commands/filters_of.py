@@ -33,19 +33,19 @@ import tempfile
 
 from scftools.base import inputs, output, program
 from scftools.cli import words
-from scftools.forms import c_arrays, filter_loads, filters, strace
+from scftools.forms import c_arrays, filters, strace, strace_reader
 from scftools.forms.filters import Stack, called, threads_text
 from scftools.logs import tracing
 from .. import processes
 
-TRACING_OPTIONS = ("-f", "-v", "-e", f"trace={filter_loads.TRACED_CALLS}", "-e", "signal=none",
+TRACING_OPTIONS = ("-f", "-v", "-e", f"trace={strace_reader.TRACED_CALLS}", "-e", "signal=none",
                   "--quiet=attach,personality")
 
 
 def loaded_in(log, label, thread, hint):
     """The stack that the processes of a log share, or that one thread has; the hint says how to take that."""
     try:
-        stacks = filter_loads.stacks_in(strace.log_lines(log, filter_loads.LONGEST_LOAD))
+        stacks = strace_reader.stacks_in(strace.log_lines(log, strace_reader.LONGEST_LOAD))
     except c_arrays.NotAnArray as why:
         raise program.ToolError(f"the filters in {label} can't be read: {why}") from why
     if thread is not None:

@@ -167,9 +167,9 @@ def _of_log(text: str) -> bytes | None:
     """The one filter that a program loads."""
     if not LOADING.search(text):
         return None
-    from . import filter_loads  # pylint: disable=import-outside-toplevel
+    from . import strace_reader  # pylint: disable=import-outside-toplevel
 
-    filters = {data for stack in filter_loads.stacks_in(text.split("\n")) for data in stack}
+    filters = {data for stack in strace_reader.stacks_in(text.split("\n")) for data in stack}
     if len(filters) != 1:
         raise c_arrays.NotAnArray(f"it loads {len(filters)} filters: `scf filters-of --log` writes each to a file")
     return filters.pop()

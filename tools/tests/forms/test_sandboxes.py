@@ -11,7 +11,7 @@ from unittest import mock
 from support.common import ALLOW, EPERM, Case, bytes_of, completed, jeq, load, ret, text_of
 
 from scftools.model import profiles
-from scftools.forms import filter_loads
+from scftools.forms import strace_reader
 from scftools.forms.lists import firejail, lxc, sandbox_rules
 from scftools.forms.profile_inputs import sandbox_of
 
@@ -69,7 +69,7 @@ class Lists(Case):
             except subprocess.TimeoutExpired:
                 os.killpg(process.pid, signal.SIGKILL)
                 raise
-        return list(filter_loads.stacks_in(text_of(path).split("\n"))), messages
+        return list(strace_reader.stacks_in(text_of(path).split("\n"))), messages
 
 
 class Policies(Lists):

@@ -11,7 +11,7 @@ import unittest
 from support.common import ALLOW, EPERM, LOADER, X86_64, Case, bytes_of, completed, jeq, load, ret, text_of, tool
 from logs import entry, read_log, rules, where
 from scftools.model.architectures import NATIVE
-from scftools.forms import c_arrays, filter_loads, filters, strace
+from scftools.forms import c_arrays, filters, strace, strace_reader
 
 # Filters that allow all but a syscall that nobody makes.
 FIRST, SECOND, THIRD = (load(4) + jeq(X86_64, 0, 2) + load(0) + jeq(number, 1, 0) + ret(ALLOW) + ret(EPERM)
@@ -81,7 +81,7 @@ print(child)"""
         self.assertIn("--thread takes those of one", err)
         child = out.strip()
         self.assertIn(f"; {child}: 2 filters, of 6, 6 instructions", err)
-        stacks = filter_loads.stacks_in(strace.log_lines(self.trace(script), filter_loads.LONGEST_LOAD))
+        stacks = strace_reader.stacks_in(strace.log_lines(self.trace(script), strace_reader.LONGEST_LOAD))
         self.assertEqual(list(stacks), [(FIRST, SECOND), (FIRST, THIRD)])
         (child,), (parent,) = stacks.values()
         self.assertEqual(self.run_tool("filters-of", "--log", "log", "--thread", child, "a")[0], 0)
@@ -100,7 +100,7 @@ done.wait()
 load(SECOND, {flags})
 go.set()
 thread.join()""", f"log{flags}")
-            stacks = filter_loads.stacks_in(strace.log_lines(log, filter_loads.LONGEST_LOAD))
+            stacks = strace_reader.stacks_in(strace.log_lines(log, strace_reader.LONGEST_LOAD))
             self.assertEqual(sorted(map(len, stacks)), [1, 2][-count:])
             self.assertEqual(sum(map(len, stacks.values())), 2)
 
@@ -158,20 +158,20 @@ made.load()
     def test_logs_that_say_too_little(self):
         stack = "{len=1, filter=[BPF_STMT(BPF_RET|BPF_K, SECCOMP_RET_ALLOW)]}"
         loads = f"seccomp(SECCOMP_SET_MODE_FILTER, 0, {stack}) = 0"
-        self.assertEqual(filter_loads.stacks_in([loads]), {(ret(ALLOW),): [""]})
-        self.assertEqual(filter_loads.stacks_in([loads.replace(" = 0", " = -1 EINVAL (Invalid argument)")]), {})
-        self.assertEqual(filter_loads.stacks_in([loads.replace(" = 0", " = 7")]), {})
+        self.assertEqual(strace_reader.stacks_in([loads]), {(ret(ALLOW),): [""]})
+        self.assertEqual(strace_reader.stacks_in([loads.replace(" = 0", " = -1 EINVAL (Invalid argument)")]), {})
+        self.assertEqual(strace_reader.stacks_in([loads.replace(" = 0", " = 7")]), {})
         with self.assertRaisesRegex(c_arrays.NotAnArray, "1 of a filter's 2 instructions"):
-            filter_loads.stacks_in([loads.replace("len=1", "len=2")])
+            strace_reader.stacks_in([loads.replace("len=1", "len=2")])
         with self.assertRaisesRegex(c_arrays.NotAnArray, "doesn't number each process"):
-            filter_loads.stacks_in([loads, f"[pid 7] {loads}"])
+            strace_reader.stacks_in([loads, f"[pid 7] {loads}"])
         superseded = ["1 clone(child_stack=0, flags=CLONE_VM|CLONE_THREAD <unfinished ...>", f"2 {loads}",
                       "1 <... clone resumed>) = 2", "1 +++ superseded by execve in pid 2 +++",
                       "1 +++ exited with 0 +++"]
-        self.assertEqual(filter_loads.stacks_in(superseded), {(ret(ALLOW),): ["1"]})
+        self.assertEqual(strace_reader.stacks_in(superseded), {(ret(ALLOW),): ["1"]})
         # a thread that has no line yet goes on as its process
         early = ["1 clone(child_stack=0, flags=CLONE_VM|CLONE_THREAD) = 2", superseded[3], f"3 {loads}"]
-        self.assertEqual(filter_loads.stacks_in(early), {(ret(ALLOW),): ["3"]})
+        self.assertEqual(strace_reader.stacks_in(early), {(ret(ALLOW),): ["3"]})
 
     def test_a_program_without_dashes(self):
         """Both tools say where it stands."""

@@ -20,7 +20,7 @@ TOOLS = os.path.join(TOP, "tools")
 DEAR = {"dataclasses", "inspect", "typing"}
 LATE = {"ast", "ctypes", "difflib", "glob", "hashlib", "importlib", "json", "pickle", "resource", "shlex", "signal",
         "subprocess", "syslog", "tempfile", "threading", "urllib.parse", "scfhost.processes", "scfhost.ptrace",
-        "scfhost.units", "scftools.ask.questions", "scftools.ask.regions", "scftools.forms.filter_loads",
+        "scfhost.units", "scftools.ask.questions", "scftools.ask.regions", "scftools.forms.strace_reader",
         "scftools.forms.lists.firejail", "scftools.forms.lists.lxc", "scftools.forms.lists.snapd",
         "scftools.forms.refusals", "scftools.forms.runtimes", "scftools.logs.cores", "scftools.report.pages",
         "scftools.report.region_output", "scftools.report.row_conditions", "scftools.report.surface_output"}
