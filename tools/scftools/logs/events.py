@@ -14,7 +14,7 @@ from ..model.calls import Call
 from ..model.tables import Table
 from ..forms import strace
 from ..forms.strace_reader import LONGEST_BEGINNING, PENDING, SUPERSEDED, Line, Reader
-from . import audit_records, journals
+from . import audit_records
 from .audit_records import Malformed
 
 # The most distinct events and failed syscalls that are kept of a text, failed ones of a process until it ends, ways
@@ -151,7 +151,7 @@ class EventLog:
     faults: list[tuple[int, str]] = field(default_factory=list)
     suppressed: int = 0
     # what coredumpctl lists
-    cores: journals.Cores = field(default_factory=journals.Cores)
+    cores: audit_records.Cores = field(default_factory=audit_records.Cores)
     # events beyond the most that are kept
     beyond: int = 0
 
@@ -293,7 +293,7 @@ class _LogReader(Reader):
         is_entry = line.startswith('{"')
         if line == "[" or line.startswith("[{"):
             self.log.cores.take_list(line, self._lines)
-        elif not self._is_record(journals.message_in(line) if is_entry else line) and not is_entry and \
+        elif not self._is_record(audit_records.message_in(line) if is_entry else line) and not is_entry and \
                 not self.log.cores.take(line):
             self.add(number, line)
 

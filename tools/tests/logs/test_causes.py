@@ -17,7 +17,7 @@ from support.common import (ALLOW, I386, KILL_PROCESS, KILL_THREAD, LOADER, LOG,
 from logs import NETLINK_AUDIT, Listener, entry, where
 from scftools.model import bpf, tables
 from scftools.forms.filters import Filter
-from scftools.logs import audit_records, cores, events, journals
+from scftools.logs import audit_records, cores, events
 from scftools.logs.causes import Inputs
 
 TABLE = tables.read_table(None)
@@ -657,7 +657,7 @@ class Journals(Causes):
         of_audit, of_kernel = self.OF_BOTH
         text_of_audit = f"Nov 29 06:47:27 vm audit[30697]: {json.loads(of_audit)['MESSAGE']}"
         text_of_kernel = f"Nov 29 06:47:27 vm kernel: {json.loads(of_kernel)['MESSAGE']}"
-        self.assertTrue(journals.message_in(of_audit).startswith("audit: type=SECCOMP audit(1795934847.207:2): auid="))
+        self.assertTrue(audit_records.message_in(of_audit).startswith("audit: type=SECCOMP audit(1795934847.207:2): "))
 
         def second(entry_text):
             return entry_text.replace("207:2)", "207:3)").replace('_AUDIT_ID": "2"', '_AUDIT_ID": "3"')
