@@ -37,6 +37,9 @@ SOCKET, SETHOSTNAME, CHROOT, UNSHARE = 41, 170, 161, 272
 PROFILE = rules(entry("sethostname", "chroot", action=ERRNO, errnoRet=1),
                 entry("socket", action=ERRNO, errnoRet=97, args=[where(0, "EQ", 16)]), default=ALLOW)
 LOAD = "seccomp(SECCOMP_SET_MODE_FILTER, 0, {len=3, filter=0x7ffd5c1d}) = 0"
+# A load for all threads of the process; and how one begins.
+FOR_ALL = LOAD.replace(" 0, {", " SECCOMP_FILTER_FLAG_TSYNC, {")
+THREAD = "clone(child_stack=0x7f01, flags=CLONE_VM|CLONE_SIGHAND|CLONE_THREAD"
 DENIED = 'chroot("/") = -1 EPERM (Operation not permitted)'
 HEAD = re.compile(r"# (?:process \d+|a process): the syscall is (\w+) \(\d+\)(?:; such failures: (\d+))?")
 
@@ -139,64 +142,57 @@ class Traced(Denials):
 class Logs(Denials):
     """Which failed syscalls of a log are behind the loading of the filter, and how they are counted."""
 
+    def chroots(self, count, *lines):
+        """So many denied chroots are in these lines, where DENIED is one, and LOAD loads a filter."""
+        log = [line.replace("DENIED", DENIED).replace("LOAD", LOAD) for line in lines]
+        self.assertEqual(self.lines_of(*log), [("chroot", count)] if count else [], lines)
+
     def test_before_and_behind_the_loading(self):
-        self.assertEqual(self.lines_of(f"7  {DENIED}", f"7  {DENIED}"), [("chroot", 2)])
-        self.assertEqual(self.lines_of(f"7  {DENIED}", f"7  {LOAD}", f"7  {DENIED}"), [("chroot", 1)])
+        self.chroots(2, "7  DENIED", "7  DENIED")
+        self.chroots(1, "7  DENIED", "7  LOAD", "7  DENIED")
         for load in ("prctl(PR_SET_SECCOMP, SECCOMP_MODE_FILTER, {len=3, filter=0x7ffd5c1d}) = 0",
                      "seccomp(0x1, 0x2, 0x7ffd5c1d) = 0", "seccomp(SECCOMP_SET_MODE_FILTER, "
                      "SECCOMP_FILTER_FLAG_NEW_LISTENER, {len=3, filter=0x7ffd5c1d}) = 9",
                      # (a filter that is printed whole, longer than what is read of a line)
                      "seccomp(SECCOMP_SET_MODE_FILTER, 0, {len=4096, filter=[" + "BPF_STMT(0, 0), " * 5000):
-            self.assertEqual(self.lines_of(f"7  {DENIED}", f"7  {load}", f"8  {DENIED}"), [], load[:99])
+            self.chroots(0, "7  DENIED", f"7  {load}", "8  DENIED")
         for load in (LOAD.replace("= 0", "= -1 EINVAL (Invalid argument)"), LOAD.replace("= 0", "= 8"),
                      "seccomp(SECCOMP_GET_ACTION_AVAIL, 0, [SECCOMP_RET_LOG]) = 0", "prctl(PR_SET_NO_NEW_PRIVS, 1) = 0",
                      "prctl(PR_SET_SECCOMP, SECCOMP_MODE_STRICT) = 0"):
-            self.assertEqual(self.lines_of(f"7  {DENIED}", f"7  {load}", f"8  {DENIED}"), [("chroot", 2)], load)
+            self.chroots(2, "7  DENIED", f"7  {load}", "8  DENIED")
 
     def test_children_are_under_it(self):
         clone = "clone(child_stack=NULL, flags=CLONE_CHILD_SETTID|SIGCHLD)"
-        self.assertEqual(self.lines_of(f"7  {LOAD}", f"7  {clone} = 8", f"8  {DENIED}", f"9  {DENIED}"),
-                         [("chroot", 1)])
-        self.assertEqual(self.lines_of(f"7  {clone} = 8", f"7  {LOAD}", f"8  {DENIED}"), [])
+        self.chroots(1, "7  LOAD", f"7  {clone} = 8", "8  DENIED", "9  DENIED")
+        self.chroots(0, f"7  {clone} = 8", "7  LOAD", "8  DENIED")
         # before strace shows whose child it is
-        self.assertEqual(self.lines_of(f"7  {LOAD}", "7  vfork( <unfinished ...>", f"8  {DENIED}",
-                                       "7  <... vfork resumed>) = 8", f"8  {DENIED}"), [("chroot", 2)])
+        self.chroots(2, "7  LOAD", "7 vfork( <unfinished ...>", "8  DENIED", "7  <... vfork resumed>) = 8", "8  DENIED")
         # what such a child loads itself stays
-        for begin in ("vfork(", "clone(child_stack=0x7f01, flags=CLONE_VM|CLONE_SIGHAND|CLONE_THREAD"):
-            self.assertEqual(self.lines_of(f"7  {begin} <unfinished ...>", f"8  {LOAD}",
-                                           f"7  <... {begin.partition('(')[0]} resumed>) = 8", f"8  {DENIED}"),
-                             [("chroot", 1)])
+        for name, begin in (("vfork", "vfork("), ("clone", THREAD)):
+            self.chroots(1, f"7  {begin} <unfinished ...>", "8  LOAD", f"7  <... {name} resumed>) = 8", "8  DENIED")
         # the first process has a number only as long as there are others
-        self.assertEqual(self.lines_of(LOAD, f"{clone} = 8", f"[pid     8] {DENIED}", f"[pid     7] {DENIED}"),
-                         [("chroot", 2)])
+        self.chroots(2, "LOAD", f"{clone} = 8", "[pid     8] DENIED", "[pid     7] DENIED")
 
     def test_numbers_of_a_pid_namespace(self):
         """There a maker gets another number than strace has."""
-        fork, thread = "fork() = 4", "clone(child_stack=0x7f01, flags=CLONE_VM|CLONE_SIGHAND|CLONE_THREAD) = 4"
-        self.assertEqual(self.lines_of("7  fork() = 3", "70  getpid() = 3", f"7  {LOAD}", f"7  {fork}",
-                                       f"71  {DENIED}", f"70  {DENIED}"), [("chroot", 1)])
-        self.assertEqual(self.lines_of(f"7  {LOAD}", "7  fork( <unfinished ...>", f"71  {DENIED}",
-                                       "7  <... fork resumed>) = 4", f"71  {DENIED}", f"72  {DENIED}"), [("chroot", 2)])
+        self.chroots(1, "7  fork() = 3", "70  getpid() = 3", "7  LOAD", "7  fork() = 4", "71  DENIED", "70  DENIED")
+        self.chroots(2, "7  LOAD", "7 fork( <unfinished ...>", "71  DENIED", "7  <... fork resumed>) = 4", "71  DENIED",
+                     "72  DENIED")
         # a load for all threads of the process is also for those
-        for_all = LOAD.replace(" 0, {", " SECCOMP_FILTER_FLAG_TSYNC, {")
-        for before in ((f"7  {thread}", "71  getpid() = 3"), (
-                "7  clone(child_stack=0x7f01, flags=CLONE_VM|CLONE_SIGHAND|CLONE_THREAD <unfinished ...>",
-                "71  getpid() = 3", "7  <... clone resumed>) = 4")):
-            self.assertEqual(self.lines_of(*before, f"7  {for_all}", f"71  {DENIED}"), [("chroot", 1)], before)
+        for before in ((f"7  {THREAD}) = 4", "71  getpid() = 3"), (
+                f"7  {THREAD} <unfinished ...>", "71  getpid() = 3", "7  <... clone resumed>) = 4")):
+            self.chroots(1, *before, f"7  {FOR_ALL}", "71  DENIED")
 
     def test_threads(self):
-        thread = "clone(child_stack=0x7f01, flags=CLONE_VM|CLONE_FS|CLONE_FILES|CLONE_SIGHAND|CLONE_THREAD)"
-        for_all = LOAD.replace(" 0, {", " SECCOMP_FILTER_FLAG_TSYNC, {")
-        for load, count in ((LOAD, 1), (for_all, 2)):
-            self.assertEqual(self.lines_of(f"7  {thread} = 8", f"8  {load}", f"8  {DENIED}", f"7  {DENIED}"),
-                             [("chroot", count)], load)
+        for load, count in ((LOAD, 1), (FOR_ALL, 2)):
+            self.chroots(count, f"7  {THREAD}) = 8", f"8  {load}", "8  DENIED", "7  DENIED")
         # a child isn't of the process
-        self.assertEqual(self.lines_of("7  fork() = 8", f"8  {for_all}", f"7  {DENIED}"), [])
+        self.chroots(0, "7  fork() = 8", f"8  {FOR_ALL}", "7  DENIED")
         # the thread that executes a program goes on as the process
         execve = ('8  execve("/bin/x", 0x1, 0x2 <unfinished ...>', "7  +++ superseded by execve in pid 8 +++",
                   "7  <... execve resumed>) = 0")
-        for loader, denied in ((8, [("chroot", 1)]), (7, [])):
-            self.assertEqual(self.lines_of(f"7  {thread} = 8", f"{loader}  {LOAD}", *execve, f"7  {DENIED}"), denied)
+        for loader, count in ((8, 1), (7, 0)):
+            self.chroots(count, f"7  {THREAD}) = 8", f"{loader}  LOAD", *execve, "7  DENIED")
 
     def test_which_one_a_process_ended_after(self):
         socket = "socket(AF_NETLINK, SOCK_RAW, NETLINK_ROUTE) = -1 EAFNOSUPPORT (Address family not supported)"
@@ -212,8 +208,7 @@ class Logs(Denials):
         # of two that were tried once, and by no process that failed, the last
         self.assertEqual(self.lines_of(f"7  {DENIED}", f"7  {socket}"), [("socket", 1), ("chroot", 1)])
         # what a process tried before and tries again is its last, and a thread that ends isn't its end
-        thread = "clone(child_stack=0x7f01, flags=CLONE_VM|CLONE_FS|CLONE_FILES|CLONE_SIGHAND|CLONE_THREAD)"
-        self.assertEqual(self.lines_of(f"7  {thread} = 8", f"8  {socket}", f"7  {DENIED}", f"7  {socket}",
+        self.assertEqual(self.lines_of(f"7  {THREAD}) = 8", f"8  {socket}", f"7  {DENIED}", f"7  {socket}",
                                        "8  +++ exited with 0 +++", "7  +++ exited with 1 +++"),
                          [("socket", 2), ("chroot", 1)])
 
