@@ -163,8 +163,7 @@ def registers_in(text: str, name: re.Match[str], architecture: str = NATIVE, is_
     if is_raw:
         numbers, most = [RAW.fullmatch(argument.strip()) for argument in printed], JUDGED[architecture].greatest
         return {at: (int(match[1], 16) & most,) if match else None for at, match in enumerate(numbers)}
-    return {at: values_of(argument, architecture)
-            for at, argument in _in_registers(name[1], printed, architecture).items()}
+    return {at: values_of(shown, architecture) for at, shown in _in_registers(name[1], printed, architecture).items()}
 
 
 def errno_in(text: str, name: re.Match[str]) -> int | None:

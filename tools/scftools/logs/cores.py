@@ -109,8 +109,9 @@ def _signal(note: bytes, layout: Layout) -> tuple[int, int, int, int]:
     return data & 0xFFFF, address, number & 0xFFFFFFFF, architecture
 
 
-def event_of(data: bytes) -> Event:
+def read_core(name: str) -> Event:
     """The syscall that ended the process of a core."""
+    data = inputs.read_input(name, "core")
     layout = layout_of(data)
     notes: dict[int, bytes] = {}
     for kind, note in itertools.islice(notes_of(data, layout), MOST_NOTES):
@@ -131,7 +132,3 @@ def event_of(data: bytes) -> Event:
     outcome = Outcome(("TRAP", *KILLS), data=answered)
     event = Event(CORE, Call(number, architecture, pointer), outcome, arguments, process, name)
     return replace(event, call=event.with_values(next(event.ways())))
-
-
-def read_core(name: str) -> Event:
-    return event_of(inputs.read_input(name, "core"))

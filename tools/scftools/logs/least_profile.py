@@ -5,7 +5,7 @@ Only what scf proves to allow no more than the base is printed, but for what is 
 from __future__ import annotations
 
 import json
-from collections.abc import Iterable, Iterator, Sequence
+from collections.abc import Iterable, Iterator
 
 from ..base import output, program
 from ..base.values import dataclass, field
@@ -144,8 +144,9 @@ class Making:
         if needed.disposition != ALLOWED or not has_name:
             self.status = self.status or program.UNKNOWN
 
-    def _keep_fallbacks(self, architecture: Architecture, called: Sequence[str]) -> None:
+    def _keep_fallbacks(self, architecture: Architecture) -> None:
         """Keeps the base's ENOSYS for newer syscalls by which libc calls older ones, and its conditions on these."""
+        called = {needed.name for needed in self.needs.judged if needed.architecture == architecture}
         for newer in OLDER:
             older = self._older(architecture, newer)
             if older and newer in called:
@@ -171,8 +172,7 @@ class Making:
         for needed in self.needs.judged:
             self._take(needed)
         for architecture in self.architectures:
-            self._keep_fallbacks(architecture, [needed.name for needed in self.needs.judged
-                                                if needed.architecture == architecture])
+            self._keep_fallbacks(architecture)
             self._keep_always(architecture)
         for name, alternatives in self.draft.allowed.items():
             # (where values aren't known, or are too many, the base's conditions)

@@ -136,11 +136,11 @@ class Judge:
         if top is None:
             raise program.ToolError("the profile's JSON can't be parsed by this tool")
         self.top: entries.Object = top
-        looked: dict[int | None, set[int]] = {}
+        looked: dict[int, set[int]] = {}
         for entry in entries.entries_of(top, table.number_of):
-            for name in entry.names if entry.conditions else ():
-                looked.setdefault(table.number_of(name), set()).update(each.index for each in entry.conditions)
-        self.looked = {name: tuple(sorted(indices)) for number, indices in looked.items() if number is not None
+            for number in map(table.number_of, entry.names if entry.conditions else ()):
+                looked.setdefault(number, set()).update(each.index for each in entry.conditions)
+        self.looked = {name: tuple(sorted(looked[number])) for number in looked
                        for name in (*table.names_of(number), f"syscall_{number:#x}")}
 
     def of(self, needed: NeededCall) -> NeededCall:
@@ -303,9 +303,8 @@ def read_needs(names: Sequence[str], judges: Judges, runtime: str | None = None)
         else:
             arguments = tuple(zip(judges.looked_at(architecture, name), values))
             calls.append(NeededCall(in_architecture, number, name, arguments, seen))
-    ways, order = 0, list(JUDGED)
-    for call in sorted(calls,
-                       key=lambda call: (order.index(call.architecture.oci), call.number, call.name, call.seen.line)):
+    ways, order = 0, list(JUDGED.values())
+    for call in sorted(calls, key=lambda it: (order.index(it.architecture), it.number, it.name, it.seen.line)):
         ways += sum(1 for _ in ways_of(call.arguments))
         if ways <= MOST_WAYS and client.has_time():
             needs.judged.append(judges.of(call.architecture.oci).of(call))

@@ -76,8 +76,7 @@ class Seen:
 class Trace(Reader):
     """The syscalls of logs by their architectures' OCI names, their names, and the arguments that are asked for."""
 
-    def __init__(self, looked_at: Callable[[str, str], tuple[int, ...]], tables: dict[str, Table],
-                 own_architecture: str = NATIVE):
+    def __init__(self, looked_at: Callable[[str, str], tuple[int, ...]], tables: dict[str, Table], own: str = NATIVE):
         self.looked_at = looked_at
         self.calls: dict[tuple[str, str, tuple], Seen] = {}
         self.unjudged: Counter[str] = Counter()
@@ -88,7 +87,7 @@ class Trace(Reader):
         self._names: set[tuple[str, str]] = set()
         # the syscalls of perf trace that were interrupted, by thread and name
         self._interrupted: dict[tuple[str, str], None] = {}
-        super().__init__(tables, own_architecture)
+        super().__init__(tables, own)
 
     def begin(self, name: str = "") -> None:
         """Begins the log of a file, with processes of its own."""

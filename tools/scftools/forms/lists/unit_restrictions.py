@@ -121,9 +121,9 @@ def _namespaces(text: str, _: str) -> Rules:
     joins = Restriction(EPERM)
     if permitted:
         # a 0 stands for any namespace
-        others = [1 << at for at in range(GREATEST_VALUE.bit_length()) if 1 << at not in bits]
-        joins = Restriction(EPERM, [*with_any(1, bits).denied, *among(1, [0])],
-                            [masked(1, sum(bits) | bit, bit) for bit in others])
+        others = (1 << at for at in range(GREATEST_VALUE.bit_length()) if 1 << at not in bits)
+        allowed = [masked(1, sum(bits) | bit, bit) for bit in others]
+        joins = Restriction(EPERM, [*with_any(1, bits).denied, *among(1, [0])], allowed)
     return {**dict.fromkeys(("clone", "unshare"), with_any(0, bits)), "setns": joins, "clone3": Restriction(ENOSYS)}
 
 
