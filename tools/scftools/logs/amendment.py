@@ -79,12 +79,10 @@ class AmendmentSearch:
         own_names = self.tables.native.names_of(self.number)
         changed_entries, gone = [], []
         for index, entry in enumerate(self.top.get("syscalls", [])):
-            if index not in taken_out:
-                changed_entries.append(entry)
-                continue
-            names = [name for name in entry["names"] if name not in own_names]
-            gone.append((index, not names))
-            changed_entries += [Object({**entry, "names": names})] if names else []
+            if index in taken_out:
+                entry = Object({**entry, "names": [name for name in entry["names"] if name not in own_names]})
+                gone.append((index, not entry["names"]))
+            changed_entries += [entry] if entry["names"] else []
         changed = {**self.top, "syscalls": [*changed_entries, *added]}
         tests = tuple((condition["index"], condition["value"], condition["valueTwo"]) if condition["op"] == MASKED else
                       (condition["index"], GREATEST_VALUE, condition["value"]) for condition in conditions)
