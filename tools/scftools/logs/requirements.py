@@ -154,18 +154,16 @@ class Judge:
                     shown = region.call_of(call.number, call.architecture, values)
                     if shown is None:
                         return replace(needed, disposition=UNDECIDED, line=UNDECIDED)
-                    (allowed if region.answer.allows else denied).append((shown, region))
+                    (allowed if region.answer.allows else denied).append((shown, region.line, region.answer))
             passing += [values] if allowed and len(denied) == denied_before else []
         if not self._lookup.is_finished:
             return replace(needed, disposition=UNDECIDED, line=UNFINISHED)
         if not allowed and not denied:
-            return replace(needed, disposition=NOT_ALLOWED, line=explanation.FOREIGN, denied=(call, KILL_PROCESS))
-        needed = replace(needed, disposition=ALLOWED, allowed=allowed[0][0] if allowed else None, passing=passing)
-        if not denied:
-            return needed
-        shown, by = denied[0]
-        return replace(needed, disposition=DEPENDS if allowed else NOT_ALLOWED, line=by.line, denied=(shown, by.answer),
-                       answers=frozenset(region.answer for _, region in denied))
+            denied = [(call, explanation.FOREIGN, KILL_PROCESS)]
+        shown, line, answer = denied[0] if denied else (None, "", None)
+        return replace(needed, disposition=NOT_ALLOWED if not allowed else DEPENDS if denied else ALLOWED, line=line,
+                       allowed=allowed[0][0] if allowed else None, denied=(shown, answer) if denied else None,
+                       passing=passing, answers=frozenset(each for _, _, each in denied))
 
     def alternatives(self, needed: NeededCall) -> list[Alternative]:
         """Conditions of which some hold of just the allowed arguments, by the regions; none if none or too many."""
@@ -246,9 +244,8 @@ def needs_lines(needs: Needs) -> Iterator[str]:
             yield f"# allowed with args {with_allowed}; with args {with_others} it is {answer}"
         yield f"# {needs.where(needed)}"
     yield from output.notes(log_remarks(needs))
-    counts = ", ".join(f"{disposition} {len(needs.of(disposition))}"
-                       for disposition in (ALLOWED, NOT_ALLOWED, DEPENDS, UNDECIDED)
-                       if disposition != UNDECIDED or needs.of(UNDECIDED))
+    shown = [ALLOWED, NOT_ALLOWED, DEPENDS, *[UNDECIDED] * bool(needs.of(UNDECIDED))]
+    counts = ", ".join(f"{disposition} {len(needs.of(disposition))}" for disposition in shown)
     yield f"# syscalls, each with the arguments that conditions test: {counts}"
 
 
@@ -292,7 +289,7 @@ def read_needs(names: Sequence[str], judges: Judges, runtime: str | None = None)
     log.begin(runtime or "")
     for name in runtimes.OWN_CALLS[runtime].names if runtime else ():
         if log.number_of(architecture, name) is not None:
-            log.keep(0, architecture, name, {})
+            log.keep(architecture, name, {})
     needs = Needs(log, judges, [], {}, len(names) > 1)
     calls: list[NeededCall] = []
     for (architecture, name, values), seen in log.calls.items():

@@ -91,21 +91,21 @@ class Trace(Reader):
 
     def begin(self, name: str = "") -> None:
         """Begins the log of a file, with processes of its own."""
-        # whether strace prints registers (-e raw=all), None before the first syscall
-        self.name, self._is_raw = name, None
+        # the line that is taken, and whether strace prints registers (-e raw=all), None before the first syscall
+        self.name, self._at, self._is_raw = name, 0, None
         # what earlier logs have
         self._earlier = {call: replace(seen) for call, seen in self.calls.items()}, self.unjudged.copy()
         super().begin()
 
     def add(self, number: int, line: str) -> None:
         """Takes a line of a log: one that another program than strace writes, or strace's."""
-        other = line.rstrip("\r")
+        self._at, other = number, line.rstrip("\r")
         if not strace.is_own(line):
-            if self._is_record(number, other):
+            if self._is_record(other):
                 return
             for mark, pattern, take in self._FORMATS:
                 match = pattern.match(other) if mark in other else None
-                if match and take(self, number, match) is not False:
+                if match and take(self, match) is not False:
                     return
         super().add(number, line)
 
@@ -124,7 +124,7 @@ class Trace(Reader):
         """Counts a call; where the log doesn't say which of several it is, each of them."""
         if self._is_raw is None:
             self._is_raw = RAW_BEGIN.match(line.text) is not None
-        name = line.name[1]
+        self._at, name = line.number, line.name[1]
         numbered = self.numbered(architecture, name)
         if not is_judged:
             self.before_load += 1
@@ -140,10 +140,9 @@ class Trace(Reader):
                     # (strace prints it by its name, or as what it does)
                     arguments = strace.registers_in(line.text, line.name, architecture, bool(self._is_raw)) \
                         if named == name else {0: (libseccomp.CALL_NUMBERS[named][name],)}
-                self.keep(line.number, architecture, named, arguments, errno=errno)
+                self.keep(architecture, named, arguments, errno=errno)
 
-    def keep(self, number: int, architecture: str, name: str, arguments: strace.Arguments, count: int = 1,
-             errno: int = 0) -> None:
+    def keep(self, architecture: str, name: str, arguments: strace.Arguments, count: int = 1, errno: int = 0) -> None:
         """Counts a syscall with the arguments that are asked for; the first of a name with a number is always kept."""
         call = architecture, name, tuple(arguments.get(at) for at in self.looked_at(architecture, name))
         if call not in self.calls and len(self.calls) >= MOST_REMEMBERED and (
@@ -154,16 +153,15 @@ class Trace(Reader):
         self._names.add(call[:2])
         seen = self.calls.setdefault(call, Seen())
         if not seen.count:
-            seen.line, seen.log = number, self.name
+            seen.line, seen.log = self._at, self.name
         seen.count += count
         seen.errnos |= {errno}
 
-    def _by_name(self, number: int, name: str, count: int = 1) -> None:
+    def _by_name(self, name: str, count: int = 1) -> None:
         """Counts a syscall by its name, in the log's own architecture."""
-        self.keep(number, self.own_architecture, name, {}, count)
+        self.keep(self.own_architecture, name, {}, count)
 
-    def _by_number(self, number: int, nr: int, arguments: dict[int, int], count: int = 1,
-                   architecture: int | None = None) -> None:
+    def _by_number(self, nr: int, arguments: dict[int, int], count: int = 1, architecture: int | None = None) -> None:
         """Counts a syscall by its number in a record, and that of its architecture, by default the log's own."""
         audit_value = JUDGED[self.own_architecture].number if architecture is None else architecture
         of = architectures.architecture_of_record(audit_value, nr)
@@ -175,9 +173,9 @@ class Trace(Reader):
             nr -= JUDGED[of].first
             names = self.tables[of].names_of(nr)
             values = {at: (value & JUDGED[of].greatest,) for at, value in arguments.items()}
-            self.keep(number, of, names[0] if names else f"syscall_{nr:#x}", values, count)
+            self.keep(of, names[0] if names else f"syscall_{nr:#x}", values, count)
 
-    def _is_record(self, number: int, line: str) -> bool:
+    def _is_record(self, line: str) -> bool:
         """Takes an audit record, of whatever type; whether the line is one."""
         kind = audit_records.kind_of(line)
         if kind is None:
@@ -190,13 +188,13 @@ class Trace(Reader):
             else:
                 record = audit_records.record_in(line, kind[1], self.tables)
                 nr, architecture, values = record.call.number, record.call.architecture, {}
-            self._by_number(number, nr, values, architecture=architecture)
+            self._by_number(nr, values, architecture=architecture)
         except audit_records.Malformed as why:
-            self.fault = self.fault or f"line {number} can't be read: {why}"
+            self.fault = self.fault or f"line {self._at} can't be read: {why}"
             self.unjudged[UNREAD] += 1
         return True
 
-    def _take_perf(self, number: int, match: re.Match[str]) -> None:
+    def _take_perf(self, match: re.Match[str]) -> None:
         thread, continued, begun = match.groups()
         if continued and (thread, continued) in self._interrupted:
             del self._interrupted[thread, continued]
@@ -204,37 +202,36 @@ class Trace(Reader):
         if begun and match.string.endswith("..."):
             self._interrupted[thread, begun] = None
             events.forget_beyond(self._interrupted, PENDING)
-        self._by_name(number, continued or begun)
+        self._by_name(continued or begun)
 
-    def _take_map(self, number: int, match: re.Match[str]) -> bool:
+    def _take_map(self, match: re.Match[str]) -> bool:
         name, nr, count = match.groups()
         if name:
-            self._by_name(number, name, int(count))
+            self._by_name(name, int(count))
         elif int(nr) <= SKIPPED:
-            self._by_number(number, int(nr), {}, int(count))
+            self._by_number(int(nr), {}, int(count))
         return bool(name) or int(nr) <= SKIPPED
 
-    def _take_sys_enter(self, number: int, match: re.Match[str]) -> None:
+    def _take_sys_enter(self, match: re.Match[str]) -> None:
         values = [int(text, 16) for text in match[2].split(", ")]
-        self._by_number(number, int(match[1]) % (1 << 32), dict(enumerate(values)))
+        self._by_number(int(match[1]) % (1 << 32), dict(enumerate(values)))
 
-    def _take_sysdig(self, number: int, match: re.Match[str]) -> None:
+    def _take_sysdig(self, match: re.Match[str]) -> None:
         name, generic = match[2], GENERIC.search(match.string, match.end())
         if match[1] == "<" or name in NO_SYSCALLS:
             return
         if name == "syscall" and generic is None:
             self.unjudged[UNREAD] += 1
         elif name == "syscall":
-            self._by_name(number, generic[1])
+            self._by_name(generic[1])
         else:
-            self._by_name(number, f"{name} or {SEVERAL[name]}" if name in SEVERAL else SYSDIG_NAMES.get(name, name))
+            self._by_name(f"{name} or {SEVERAL[name]}" if name in SEVERAL else SYSDIG_NAMES.get(name, name))
 
     # What other programs write: a mark in each such line, its pattern, and what takes it, unless that returns False.
     _FORMATS = (
-        ("", LOSSES, lambda self, _, match: self.unjudged.update({LOST: int(match[1] or match[2])})),
+        ("", LOSSES, lambda self, match: self.unjudged.update({LOST: int(match[1] or match[2])})),
         ("): ", PERF, _take_perf), ("@", MAP, _take_map), ("sys_enter: NR ", SYS_ENTER, _take_sys_enter),
-        (") ", SYSDIG, _take_sysdig),
-        ("", COUNTED, lambda self, number, match: self._by_name(number, match[1], int(match[2]))),
+        (") ", SYSDIG, _take_sysdig), ("", COUNTED, lambda self, match: self._by_name(match[1], int(match[2]))),
         ("", HEADINGS, lambda *_: None))
 
     def add_profile(self, text: str) -> None:
@@ -247,9 +244,10 @@ class Trace(Reader):
             raise program.ToolError(f"the log '{output.escaped(self.name)}': {why}") from why
         except (ValueError, LookupError, TypeError, RecursionError) as error:
             raise program.ToolError(f"the log '{output.escaped(self.name)}' is a profile that can't be read") from error
+        self._at = 1
         for name in names:
             if isinstance(name, str):
-                self._by_name(1, name)
+                self._by_name(name)
 
 
 def read_traces(names: Sequence[str], looked_at: Callable[[str, str], tuple[int, ...]], tables: dict[str, Table],
