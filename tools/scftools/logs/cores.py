@@ -94,8 +94,8 @@ def notes_of(data: bytes, layout: Layout) -> Iterator[tuple[int, memoryview]]:
             yield kind, memoryview(data)[note:note + length]
 
 
-def _signal(note: bytes, layout: Layout) -> tuple[int, int, int, int]:
-    """The data, the address, the number and the architecture; raises ToolError for another signal than a filter's."""
+def _signal(note: bytes, layout: Layout) -> tuple[Outcome, Call]:
+    """What a signal tells of the answer and the syscall; raises ToolError for another one than a filter's."""
     offset, union = layout.union
     if len(note) < offset + union.size:
         raise refused("has a note of the signal that is cut")
@@ -106,7 +106,7 @@ def _signal(note: bytes, layout: Layout) -> tuple[int, int, int, int]:
         raise refused("is of a SIGSYS that is no filter's: " + (
             "it is of syscall user dispatch" if code == SYS_USER_DISPATCH else f"a process sent it (si_code {code})"))
     address, number, architecture = union.unpack_from(note, offset)
-    return data & 0xFFFF, address, number & 0xFFFFFFFF, architecture
+    return Outcome(("TRAP", *KILLS), data=data & 0xFFFF), Call(number & 0xFFFFFFFF, architecture, address)
 
 
 def read_core(name: str) -> Event:
@@ -120,15 +120,14 @@ def read_core(name: str) -> Event:
             notes[kind] = bytes(note[:LONGEST_NOTE])
     if SIGINFO not in notes:
         raise refused("has no note of the signal (NT_SIGINFO)")
-    answered, pointer, number, architecture = _signal(notes[SIGINFO], layout)
+    outcome, call = _signal(notes[SIGINFO], layout)
     offset, registers, names = layout.registers
     status = notes.get(PRSTATUS, b"")
     arguments, process = (None,) * 6, None
-    if len(status) >= offset + registers.size and architecture in ARGUMENT_REGISTERS:
+    if len(status) >= offset + registers.size and call.architecture in ARGUMENT_REGISTERS:
         values = dict(zip(names, registers.unpack_from(status, offset)))
-        arguments = tuple((value,) for value in arguments_in(values, architecture))
+        arguments = tuple((value,) for value in arguments_in(values, call.architecture))
         process = struct.unpack_from("<i", status, layout.process)[0]
     name = notes.get(PRPSINFO, b"")[layout.name:layout.name + 16].partition(b"\0")[0].decode("latin-1")
-    outcome = Outcome(("TRAP", *KILLS), data=answered)
-    event = Event(CORE, Call(number, architecture, pointer), outcome, arguments, process, name)
+    event = Event(CORE, call, outcome, arguments, process, name)
     return replace(event, call=event.with_values(next(event.ways())))

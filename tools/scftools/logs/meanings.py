@@ -103,13 +103,9 @@ def _of_answer(line: str) -> Iterator[str]:
 
 
 def _of_call(line: str, table: Table) -> Iterator[str]:
-    match = re.fullmatch(r"call nr (\S+) arch (\S+) ip (\S+) args((?: \S+){6})", line)
-    try:
-        numbers = [int(number, 0) for number in (*match.groups()[:3], *match[4].split())] if match else []
-    except ValueError:
-        return
-    if numbers:
-        yield from explanation.explain_call(Call(*numbers[:3], tuple(numbers[3:])), table)
+    call = Call.read(line)
+    if call is not None:
+        yield from explanation.explain_call(call, table)
     named = verdicts.NAMED_CALL_LINE.fullmatch(line)
     if named:
         yield f"of syscall {named[1]}, {named[2]}: {OF_A_SYSCALL[named[3]]}"

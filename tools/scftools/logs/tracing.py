@@ -41,20 +41,14 @@ def check_separated(parser: Parser, words: Sequence[str], command: str) -> None:
                          f"{output.escaped(shown)}`")
 
 
-def _path_of(name: str) -> str:
-    """The file of a program. Raises ToolError if there is none."""
-    path, shown = shutil.which(name), output.escaped(name)
-    if path is None and shutil.which(name, os.F_OK):
-        raise program.ToolError(f"'{shown}' isn't executable", NOT_EXECUTABLE)
-    if path is None:
-        raise program.ToolError(f"there is no program '{shown}'", NOT_THERE)
-    return path
-
-
 def run_traced(log: str, options: Sequence[str], words: Sequence[str]) -> int:
     """Runs a program with its arguments while strace writes its log, and waits for both. The result is the program's
     status, or a signal's number below zero. Raises ToolError if there is no such program, or no strace."""
-    path = _path_of(words[0])
+    path, shown = shutil.which(words[0]), output.escaped(words[0])
+    if path is None and shutil.which(words[0], os.F_OK):
+        raise program.ToolError(f"'{shown}' isn't executable", NOT_EXECUTABLE)
+    if path is None:
+        raise program.ToolError(f"there is no program '{shown}'", NOT_THERE)
     if os.geteuid() and (os.stat(path).st_mode & (stat.S_ISUID | stat.S_ISGID)
                          or unless_refused(b"", os.getxattr, path, "security.capability")):
         program.say(f"'{words[0]}' gets no privileges while it is traced: it may do other things than else")
