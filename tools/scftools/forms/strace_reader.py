@@ -225,7 +225,7 @@ class Reader:
         return int(without_name[1], 16) if without_name else self.tables[architecture].number_of(name)
 
     def _numbered(self, architecture: str, name: str) -> dict[str, int]:
-        """The syscalls that strace prints by a name, as also what socketcall and ipc do, and their numbers."""
+        """The syscalls that strace prints by a name, and their numbers: it names what socketcall and ipc do."""
         multiplexers = libseccomp.CALL_NUMBERS.items() if architecture in libseccomp.MULTIPLEXING else ()
         names = [name, *(multiplexer for multiplexer, its in multiplexers if name in its)]
         numbers = {syscall: self.number_of(architecture, syscall) for syscall in names}
@@ -234,7 +234,7 @@ class Reader:
     def architecture_of(self, who: str | None, name: str, nr: int | None) -> str:
         """The architecture of a process's syscall. If the syscall doesn't have the printed number there, the process is
         in another mode from now on, in which it has; if there is none, an empty name."""
-        architecture = self._architecture_of(who)
+        architecture = self._architectures.get(who, self.own_architecture)
         numbers = () if nr is None else self.numbered(architecture, name).values()
         if nr is None or nr in numbers:
             return architecture
@@ -255,13 +255,10 @@ class Reader:
             self._alive.add(printed)
             architecture = self.own_architecture if self._other is None else self._other
             if self._other is not None and self._makers and len(self._makers) <= MAKERS:
-                made = map(self._architecture_of, self._makers)
+                made = (self._architectures.get(maker, self.own_architecture) for maker in self._makers)
                 architecture = next((oci for oci in made if oci != self.own_architecture), self.own_architecture)
             self._architectures.setdefault(printed, architecture)
         return printed
-
-    def _architecture_of(self, who: str | None) -> str:
-        return self._architectures.get(who, self.own_architecture)
 
     def _add(self, line: Line) -> None:
         who, text = line.who, line.text
@@ -321,7 +318,7 @@ class Reader:
         architecture = self.architecture_of(line.who, line.name[1], line.nr)
         if line.child is not None:
             # a new process begins in the architecture of the one that makes it
-            self._architectures.setdefault(line.child, self._architecture_of(line.who))
+            self._architectures.setdefault(line.child, self._architectures.get(line.who, self.own_architecture))
         was_shown, is_under = self.confinement.is_shown, bool(self.confinement.filters.get(line.who))
         self.confinement.takes(line)
         if self.confinement.is_shown and not was_shown:
