@@ -166,10 +166,9 @@ def record_in(line: str, at: int, tables: dict[str, Table]) -> SeccompRecord:
         raise Malformed("the record is cut: it has no sig= arch= syscall= compat= ip= code=")
     _, arch, number, _, pointer, code = tails[-1].groups()
     architecture, stamp = architecture_of(arch), STAMP_OF_RECORD.search(line, at, at + 64)
-    process = who[1] if who and re.fullmatch("[0-9]{1,10}", who[1]) else None
+    process = int(who[1]) if who and re.fullmatch("[0-9]{1,10}", who[1]) else None
     call = Call(number_of(number, architecture, tables), architecture, _number(pointer, "ip", (1 << 64) - 1, 16))
-    return SeccompRecord(call, halves_of(code), int(process) if process else None, name_of(who[2]) if who else "",
-                         stamp[1] if stamp else None)
+    return SeccompRecord(call, halves_of(code), process, name_of(who[2]) if who else "", stamp[1] if stamp else None)
 
 
 def syscall_in(line: str, at: int, tables: dict[str, Table]) -> tuple[int, int, dict[int, int]]:
@@ -198,22 +197,20 @@ def kernel_lines() -> Iterator[str]:
         log = os.open(KERNEL_LOG, os.O_RDONLY | os.O_NONBLOCK | os.O_CLOEXEC)
     except OSError as error:
         raise program.ToolError(f"the kernel's log can't be read: {KERNEL_LOG}: {error.strerror}") from error
-    try:
+    with open(log, "rb", buffering=0) as messages:
         while True:
             try:
-                message = os.read(log, LONGEST)
+                message = messages.read(LONGEST)
             except BrokenPipeError:
                 # the kernel has written over what was to be read
                 continue
-            except BlockingIOError:
+            if message is None:
                 return
             # (of facility 0, which a program's message never has, and at its beginning: others have words of processes)
             head, _, text = message.partition(b";")
             number = head.partition(b",")[0]
             if number.isdigit() and int(number) >> 3 == 0 and text.startswith(b"audit: type="):
                 yield text.partition(b"\n")[0].decode("latin-1")
-    finally:
-        os.close(log)
 
 
 def actions_logged() -> str | None:
@@ -246,9 +243,6 @@ class Core:
             return f"{who} was ended by SIGSYS, and its core, which has the syscall, isn't kept"
         return (f"{who} was ended by SIGSYS, and its core has the syscall: coredumpctl dump {self.process} | "
                 "scf why --core - ..")
-
-    def as_json(self) -> dict[str, object]:
-        return {"process": self.process, "name": self.name, "signal": self.signal, "is_present": self.is_present}
 
 
 def _parsed(text: str, what: str) -> Any:

@@ -139,7 +139,7 @@ class LogReport:
         value = {"events": [causes.cause_json(cause) for cause in self.causes],
                  "faults": [{"line": number, "why": why} for number, why in log.faults],
                  "suppressed": log.suppressed, "not_judged": log.beyond,
-                 **({"cores": [core.as_json() for core in log.cores]} if log.cores else {})}
+                 **({"cores": [vars(core) for core in log.cores]} if log.cores else {})}
         if denied is None or not failures.count + failures.before_load:
             return value
         listed = {name: [{"call": each.event.call.as_json(self.given.table), "errno": each.event.outcome.data,

@@ -159,10 +159,6 @@ class Cause:
     changes: list[amendment.Amendment] = field(default_factory=list)
 
     @property
-    def event(self) -> Event:
-        return self.found.event
-
-    @property
     def status(self) -> int:
         verdicts = {CONTRADICTS: program.NEGATIVE, UNKNOWN_FIT: program.UNKNOWN, FITS: program.SUCCESS}
         return client.worst(verdicts[side.verdict] if side.refusal is None else side.refusal.status
@@ -196,7 +192,7 @@ def _arguments(call: Call, table: Table) -> str:
 
 def _of_event(cause: Cause) -> Iterator[str]:
     """What the source says, and what it doesn't."""
-    event = cause.event
+    event = cause.found.event
     kind = "failures" if event.outcome.is_result else "records"
     more = f"; such {kind}: {cause.found.count}" if cause.found.count > 1 else ""
     yield f"{event.who()}: the syscall is {event.call.describe(cause.given.table)}{more}"
@@ -239,12 +235,13 @@ def _of_verdict(side: Side) -> str:
     return f"{side.name} answer{s} otherwise: {others}"
 
 
-def _of_case(case: Case, event: Event, table: Table) -> Iterator[str]:
+def _of_case(case: Case, cause: Cause) -> Iterator[str]:
     """For which arguments a case is."""
+    unknown = cause.found.event.unknown
     if not case.is_for_all:
-        yield f"for example with args {_arguments(case.call, table)}"
-    elif event.unknown:
-        yield "whatever the arguments are" if len(event.unknown) == 6 else "whatever the other arguments are"
+        yield f"for example with args {_arguments(case.call, cause.given.table)}"
+    elif unknown:
+        yield "whatever the arguments are" if len(unknown) == 6 else "whatever the other arguments are"
 
 
 def _of_side(side: Side | None, cause: Cause, of_case: Callable[[Case, Cause], Iterator[str]]) -> Iterator[str]:
@@ -270,9 +267,9 @@ def _of_profile(case: Case, cause: Cause) -> Iterator[str]:
     given = cause.given
     reason = given.reason(case.call)
     yield reason.line
-    call = None if case.is_for_all and cause.event.unknown else case.call
+    call = None if case.is_for_all and cause.found.event.unknown else case.call
     yield from output.notes([case.answer.describe(), *explanation.describe_reason(reason, given.profile, call),
-                             *_of_case(case, cause.event, given.table)])
+                             *_of_case(case, cause)])
 
 
 def _of_filters(case: Case, cause: Cause) -> Iterator[str]:
@@ -281,8 +278,7 @@ def _of_filters(case: Case, cause: Cause) -> Iterator[str]:
     yield case.answer.line
     givers, = listing.deciding_filters([(given.filters, case.answer)], case.call.words())
     shown = listing.to_show(givers)
-    yield from output.notes([case.answer.describe(), *_of_case(case, cause.event, given.table),
-                             *decisions.of_givers(given.filters, givers),
+    yield from output.notes([case.answer.describe(), *_of_case(case, cause), *decisions.of_givers(given.filters, givers),
                              *(shown.last_tests(case.call, given.table, shown.title(given.filters)) if shown else ())])
 
 
@@ -307,7 +303,7 @@ def _side_json(side: Side, cause: Cause, of_case: Callable[[Case], dict[str, obj
 
 
 def cause_json(cause: Cause) -> dict[str, object]:
-    event, given = cause.event, cause.given
+    event, given = cause.found.event, cause.given
 
     def of_profile(case: Case) -> dict[str, object]:
         return explanation.reason_json(given.reason(case.call), given.profile or b"", None)
