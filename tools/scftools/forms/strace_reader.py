@@ -82,9 +82,6 @@ class Confinement:
     _expected: dict[str, None] = field(default_factory=dict)
     _early: dict[str | None, str] = field(default_factory=dict)
 
-    def process_of(self, who: str | None) -> str | None:
-        return self.process.get(who, who)
-
     def begins(self, who: str | None, makers: Iterable[str | None]) -> None:
         """A thread has a line: a new one is expected, made by one of these, or the first, which has a number now."""
         if who in self.process:
@@ -113,7 +110,7 @@ class Confinement:
             if child == early and child not in self.process:
                 self._expected[child] = None
             for number in (child, early):
-                process = self.process_of(who) if "CLONE_THREAD" in line.text else number
+                process = self.process.get(who, who) if "CLONE_THREAD" in line.text else number
                 if number in self.process:
                     # (it may have loaded filters since its first line)
                     self.process[number] = process
@@ -122,7 +119,7 @@ class Confinement:
         flags = _flags_of_load(line) if line.text.startswith(("seccomp(", "prctl(")) else None
         if flags is not None:
             filters = (*self.filters.get(who, ())[:MOST_FILTERS], self.filter_in(line))
-            self.is_shown, process = True, self.process_of(who)
+            self.is_shown, process = True, self.process.get(who, who)
             for thread in self.process if flags & FLAG_TSYNC else [who]:
                 if thread == who or self.process[thread] == process:
                     self.filters[thread] = filters

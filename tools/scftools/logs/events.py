@@ -262,7 +262,7 @@ class _LogReader(Reader):
         event = self.log.last_failure = self._last[who].failure if is_judged else None
         if event is not None:
             self.log.failures.add(event)
-            failed = self._failed.setdefault(self.confinement.process_of(who), {})
+            failed = self._failed.setdefault(self.confinement.process.get(who, who), {})
             failed.pop(event.key, None)
             failed[event.key] = None
             forget_beyond(failed, OF_PROCESS)
@@ -281,7 +281,7 @@ class _LogReader(Reader):
             self._signals.append((who, signal[1], self._last.pop(who, None)))
         elif line.text.startswith("+++ "):
             if SUPERSEDED.match(line.text) is None:
-                process, is_bad = self.confinement.process_of(who), ENDED_BADLY.match(line.text) is not None
+                process, is_bad = self.confinement.process.get(who, who), ENDED_BADLY.match(line.text) is not None
                 failed = self._failed.pop(process, None) if is_bad or process == who else None
                 if failed and is_bad and len(self.log.failures.of_ended) < EVENTS:
                     self.log.failures.of_ended.append([*reversed(failed)])

@@ -120,7 +120,7 @@ class Making:
         if not is_answered or self.widens and self.needs.log.has_load:
             self._deny(needed, has_name, self.needs.where(needed))
             return
-        self.failing[needed.shown_name] = None
+        self.failing[needed.architecture.marked(needed.name)] = None
         answer = next(iter(needed.answers))
         if has_name and answer != self.draft.default:
             self.draft.add(needed.name, _each_way(needed), answer)
@@ -134,7 +134,7 @@ class Making:
             self._widen(needed, "may deny", self.needs.where(needed))
             return
         if not has_name:
-            self.remarks.append(f"{needed.shown_name} has no name, and isn't in the profile")
+            self.remarks.append(f"{needed.architecture.marked(needed.name)} has no name, and isn't in the profile")
         elif needed.disposition in (ALLOWED, DEPENDS):
             self.draft.add(needed.name, map(_conditions, needed.passing))
         if needed.disposition == DEPENDS and needed.unknown:

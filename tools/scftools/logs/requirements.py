@@ -74,10 +74,6 @@ class NeededCall:
         return Call(self.architecture.first + self.number, self.architecture.number)
 
     @property
-    def shown_name(self) -> str:
-        return self.architecture.marked(self.name)
-
-    @property
     def is_foreign(self) -> bool:
         """Whether the profile doesn't list its architecture."""
         return self.line == explanation.FOREIGN
@@ -253,7 +249,7 @@ def count_lines(needs: Needs) -> list[str]:
     """How often the logs have each syscall, the most frequent first: lines NAME COUNT."""
     counts: Counter[str] = Counter()
     for needed in needs.judged:
-        counts[needed.shown_name] += needed.seen.count
+        counts[needed.architecture.marked(needed.name)] += needed.seen.count
     return [f"{name} {count}" for name, count in sorted(counts.items(), key=lambda item: (-item[1], item[0]))]
 
 

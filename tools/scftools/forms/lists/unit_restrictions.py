@@ -80,22 +80,19 @@ def masked(index: int, mask: int, value: int) -> Alternative:
     return (Condition(index, "SCMP_CMP_MASKED_EQ", mask, value),)
 
 
-def _compared(index: int, operator: str, value: int) -> Alternative:
-    return (Condition(index, f"SCMP_CMP_{operator}", value, 0),)
-
-
 def among(index: int, values: Iterable[int]) -> list[Alternative]:
     """An argument is one of some values."""
-    return [_compared(index, "EQ", value) for value in sorted(values)]
+    return [(Condition(index, "SCMP_CMP_EQ", value, 0),) for value in sorted(values)]
 
 
 def outside(index: int, values: Sequence[int]) -> list[Alternative]:
     """An argument is none of some values."""
     least, greatest = min(values), max(values)
     if least == greatest:
-        return [_compared(index, "NE", least)]
+        return [(Condition(index, "SCMP_CMP_NE", least, 0),)]
+    below = [(Condition(index, "SCMP_CMP_LT", least, 0),)] if least else []
     between = among(index, set(range(least, greatest)) - set(values))
-    return [*([_compared(index, "LT", least)] if least else []), *between, _compared(index, "GT", greatest)]
+    return [*below, *between, (Condition(index, "SCMP_CMP_GT", greatest, 0),)]
 
 
 def with_any(index: int, bits: Sequence[int], answer: Answer = EPERM) -> Restriction:
