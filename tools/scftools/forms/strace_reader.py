@@ -34,8 +34,6 @@ MOST_FILTERS = 8192
 MOST_LOADS, LONGEST_LOAD = 4096, 1 << 20
 TRACED_CALLS = "seccomp,prctl,clone,clone3,fork,vfork"
 PROGRAM = Pattern(r"\{len=([0-9]{1,5}), filter=(?:\[(.*)\]|(0x[0-9a-f]+|NULL))\}", re.S)
-# Each stack of filters, oldest first, and the numbers of those that ended with it; one that was alone may have none.
-Stacks = "dict[tuple[bytes, ...], list[str]]"
 SUPERSEDED = Pattern(r"\+\+\+ superseded by execve in pid ([0-9]{1,10}) \+\+\+")
 
 
@@ -335,7 +333,7 @@ class FilterLoads(Confinement):
 
     def __init__(self) -> None:
         super().__init__()
-        self.ended: Stacks = {}
+        self.ended: dict[tuple[bytes, ...], list[str]] = {}
         self._loads_left = MOST_LOADS
         # calls that aren't finished yet
         self._unfinished: dict[str | None, str] = {}
@@ -380,8 +378,9 @@ class FilterLoads(Confinement):
         super().end(who)
 
 
-def stacks_in(lines: Iterable[str]) -> Stacks:
-    """The stacks of the processes of a log. Raises c_arrays.NotAnArray if a filter can't be read."""
+def stacks_in(lines: Iterable[str]) -> dict[tuple[bytes, ...], list[str]]:
+    """Each stack of filters, oldest first, and the numbers of what ended with it; one that was alone may have none.
+    Raises c_arrays.NotAnArray if a filter can't be read."""
     loads = FilterLoads()
     for line in lines:
         loads.add(line)

@@ -122,9 +122,8 @@ sys.exit(5)""", "out")
         name = os.path.basename(sys.executable)
         self.assertEqual(self.run_python("filters-of", "load(FIRST)"), (0, f"{name}.filters/0.bpf\n", ""))
         self.assertEqual(self.taken(f"{name}.filters"), [FIRST])
-        status, out, err = self.run_python("filters-of", "load(FIRST)")
-        self.assertEqual((status, out), (2, ""))
-        self.assertIn(f"the folder '{name}.filters' already has filters\n", err)
+        self.is_refusal(f"the folder '{name}.filters' already has filters\n",
+                        self.run_python("filters-of", "load(FIRST)"))
 
     def test_a_log_as_a_filter(self):
         self.run_python("filters-of", "load(FIRST)", "out")

@@ -86,9 +86,7 @@ class List(Case):
         return self.run_tool("list", *words, self.file("f.bpf", data))
 
     def test_the_lines_on_the_path_are_marked(self):
-        status, out, err = self.listed(filter_of([0]), "--nr", "write")
-        self.assertEqual((status, err), (0, ""))
-        self.assertEqual(out.split("\n"), [
+        self.assertEqual(self.out_of(0, self.listed(filter_of([0]), "--nr", "write")).split("\n"), [
             "> 0  ld [4]                 // the architecture",
             "> 1  jeq #0xc000003e, 1, 0  // x86-64: to 3, else 2",
             "  2  ret #0x80000000        // KILL_PROCESS",
