@@ -245,8 +245,8 @@ class Profiles(Lists):
                                                ("mkdir", "ERRNO 2")], 3))
 
     def test_lines_that_are_ignored(self):
-        rules, policy = self.rules("ignore seccomp\nseccomp.drop mkdir\nseccomp\nignore protocol unix\nprotocol unix\n"
-                                   "seccomp.32.drop sync\n")
+        rules, policy = self.rules("ignore seccomp.drop acct\nseccomp.drop mkdir\nseccomp.drop acct\n"
+                                   "ignore protocol unix\nprotocol unix\nseccomp.32.drop sync\n")
         self.assertEqual(rules, {("mkdir", "ERRNO 1"): 2})
         self.assertIn("line 6: seccomp.32.drop is for i386, which the profile leaves out", policy.remarks)
         _, policy = self.rules("seccomp.drop mkdir,utime:log\n")
