@@ -6,7 +6,7 @@ import functools
 from collections.abc import Callable, Iterator, Sequence
 
 from ..base import output, program
-from ..base.values import dataclass, field, replace
+from ..base.values import dataclass, replace
 from ..model import tables
 from ..model.answers import ACTIONS, ERRNOS, Answer
 from ..model.architectures import NATIVE
@@ -154,33 +154,32 @@ class Cause:
 
     found: Found
     given: Inputs
-    profile: Side | None = None
-    filters: Side | None = None
-    changes: list[amendment.Amendment] = field(default_factory=list)
+    # what is given, as "profile" and "filters"
+    sides: dict[str, Side]
+    changes: list[amendment.Amendment]
 
     @property
     def status(self) -> int:
         verdicts = {CONTRADICTS: program.NEGATIVE, UNKNOWN_FIT: program.UNKNOWN, FITS: program.SUCCESS}
         return client.worst(verdicts[side.verdict] if side.refusal is None else side.refusal.status
-                            for side in (self.profile, self.filters) if side is not None)
+                            for side in self.sides.values())
 
 
 def cause_of(found: Found, given: Inputs) -> Cause:
     """What a profile and filters say of an event; the changes allow what several have in common."""
-    cause, event = Cause(found, given), found.event
-    if given.filters:
-        name = "the filter" if len(given.filters) == 1 else "the filters"
-        cause.filters = Side(name, event, lambda: given.of_filters)
-    if given.profile is None:
-        return cause
-    side = cause.profile = Side("the profile", event, lambda: given.of_profile)
-    if side.refusal is None and decisions.is_undetermined(given.reason(event.call), event.call, given.profile,
-                                                          given.judged):
-        side.cases, side.is_undetermined = (), True
-    denied = next((case for case in side.cases if not case.answer.allows), None)
-    if denied is not None:
-        reason = given.reason(denied.call)
-        cause.changes = list(amendment.amendments(given.profile, found.common, reason, given.tables))
+    cause, event = Cause(found, given, {}, []), found.event
+    name = "the filter" if len(given.filters) == 1 else "the filters"
+    filters = {"filters": Side(name, event, lambda: given.of_filters)} if given.filters else {}
+    if given.profile is not None:
+        side = cause.sides["profile"] = Side("the profile", event, lambda: given.of_profile)
+        if side.refusal is None and decisions.is_undetermined(given.reason(event.call), event.call, given.profile,
+                                                              given.judged):
+            side.cases, side.is_undetermined = (), True
+        denied = next((case for case in side.cases if not case.answer.allows), None)
+        if denied is not None:
+            reason = given.reason(denied.call)
+            cause.changes += amendment.amendments(given.profile, found.common, reason, given.tables)
+    cause.sides.update(filters)
     return cause
 
 
@@ -244,10 +243,8 @@ def _of_case(case: Case, cause: Cause) -> Iterator[str]:
         yield "whatever the arguments are" if len(unknown) == 6 else "whatever the other arguments are"
 
 
-def _of_side(side: Side | None, cause: Cause, of_case: Callable[[Case, Cause], Iterator[str]]) -> Iterator[str]:
+def _of_side(side: Side, cause: Cause, of_case: Callable[[Case, Cause], Iterator[str]]) -> Iterator[str]:
     """What a party answers, in each way that the arguments may be."""
-    if side is None:
-        return
     if side.refusal is not None:
         yield from refusals.lines_of(side.refusal, cause.given.profile or b"", cause.given.judged)
     elif side.is_undetermined:
@@ -285,8 +282,8 @@ def _of_filters(case: Case, cause: Cause) -> Iterator[str]:
 def cause_lines(cause: Cause) -> Iterator[str]:
     """What is printed of an event: scf's lines, and those of the tool marked by `# `."""
     yield from output.notes(_of_event(cause))
-    yield from _of_side(cause.profile, cause, _of_profile)
-    yield from _of_side(cause.filters, cause, _of_filters)
+    for key, side in cause.sides.items():
+        yield from _of_side(side, cause, _of_profile if key == "profile" else _of_filters)
     for change in cause.changes:
         whose = "" if cause.given.judged.is_native else " to an x86-64 syscall"
         yield from output.notes([
@@ -317,10 +314,8 @@ def cause_json(cause: Cause) -> dict[str, object]:
         "count": cause.found.count, "call": event.call.as_json(given.table), "actions": list(event.outcome.actions),
         "data": event.outcome.data,
         "arguments": [None if values is None else list(map(hex, values)) for values in event.arguments]}
-    if cause.profile is not None:
-        value["profile"] = _side_json(cause.profile, cause, of_profile)
-    if cause.filters is not None:
-        value["filters"] = _side_json(cause.filters, cause, of_filters)
+    for key, side in cause.sides.items():
+        value[key] = _side_json(side, cause, of_profile if key == "profile" else of_filters)
     if event.outcome.is_result:
         value["has_ended"] = cause.found.has_ended
     return {**value, "changes": [change.as_json() for change in cause.changes]}
