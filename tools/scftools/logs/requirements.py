@@ -22,7 +22,7 @@ from ..ask.verdicts import UNDECIDED, UNFINISHED
 from ..forms import runtimes
 from ..forms.strace_reader import OWN_MODE, modes_of
 from ..report.covers import Alternative, Covers
-from . import audit_records, traces
+from . import audit_records
 from .events import ways_of
 from .traces import CUT, FOREIGN, LOST, MORE, UNREAD, Seen, Trace
 
@@ -281,7 +281,9 @@ def read_needs(names: Sequence[str], judges: Judges, runtime: str | None = None)
     architecture = judges.own.oci
     # this checks the profile before a log is read
     judges.of(architecture)
-    log = traces.read_traces(names, judges.looked_at, judges.tables, architecture)
+    log = Trace(judges.looked_at, judges.tables, architecture)
+    for name in names:
+        log.read(name)
     log.begin(runtime or "")
     for name in runtimes.OWN_CALLS[runtime].names if runtime else ():
         if log.number_of(architecture, name) is not None:

@@ -12,7 +12,7 @@ import itertools
 import json
 import re
 from collections import Counter
-from collections.abc import Callable, Sequence
+from collections.abc import Callable
 
 from ..base import output, program
 from ..base.inputs import LONGEST_LINE
@@ -249,22 +249,17 @@ class Trace(Reader):
             if isinstance(name, str):
                 self._by_name(name)
 
-
-def read_traces(names: Sequence[str], looked_at: Callable[[str, str], tuple[int, ...]], tables: dict[str, Table],
-                architecture: str) -> Trace:
-    """The contents of logs (`-` is standard input), with the requested arguments; a log may be a profile."""
-    trace = Trace(looked_at, tables, architecture)
-    for name in names:
-        trace.begin(name)
+    def read(self, name: str) -> None:
+        """Reads a log (`-` is standard input) with the requested arguments, or a profile that was made of one."""
+        self.begin(name)
         numbered = enumerate(strace.log_lines(name), 1)
         number, line = next(((number, line) for number, line in numbered if line.strip()), (1, ""))
         if line.lstrip()[:1] == "{" or line.startswith(YAML_BEGINNINGS) or line.rstrip() == "---":
-            trace.add_profile("\n".join([line, *(line for _, line in numbered)]))
-            continue
+            self.add_profile("\n".join([line, *(line for _, line in numbered)]))
+            return
         for number, line in itertools.chain([(number, line)], numbered):
-            trace.add(number, line)
-            if trace.unjudged[MORE] > MOST_NOT_REMEMBERED:
+            self.add(number, line)
+            if self.unjudged[MORE] > MOST_NOT_REMEMBERED:
                 raise program.ToolError(f"the log has more than {MOST_REMEMBERED + MOST_NOT_REMEMBERED} syscalls with "
                                         "other names or arguments: log fewer syscalls by strace -e trace=..")
-        trace.end()
-    return trace
+        self.end()
