@@ -275,7 +275,8 @@ def _of_filters(case: Case, cause: Cause) -> Iterator[str]:
     yield case.answer.line
     givers, = listing.deciding_filters([(given.filters, case.answer)], case.call.words())
     shown = listing.to_show(givers)
-    yield from output.notes([case.answer.describe(), *_of_case(case, cause), *decisions.of_givers(given.filters, givers),
+    yield from output.notes([case.answer.describe(), *_of_case(case, cause),
+                             *decisions.of_givers(given.filters, givers),
                              *(shown.last_tests(case.call, given.table, shown.title(given.filters)) if shown else ())])
 
 

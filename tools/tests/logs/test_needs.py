@@ -359,9 +359,6 @@ class Needs(Judgement):
         log, profile = self.file("l", "7  openat(AT_FDCWD, \"x\") = 3\n"), self.file("p.json", profile_of("read"))
         self.assertEqual(self.run_tool("needs", profile, log),
                          (2, "", f"needs: '{log}' is a strace log, not a profile: LOG comes before PROFILE\n"))
-        # what is no log either is refused by scf
-        self.assertEqual(self.run_tool("needs", profile, self.file("q", "x"))[:2][1].split("\n")[0],
-                         "fault profile Json")
 
     def test_a_call_that_is_cut(self):
         """Without its beginning, and a line that ends before its result."""

@@ -76,10 +76,6 @@ class Path(Case):
         self.assertEqual(self.holds(jumps, call), [0, *range(1, 4096, 2)])
         self.assertEqual(listing.path_of(Filter("", jumps), call.words()).describe()[:12], "0 1 3 5 7 9 ")
 
-    def test_a_fault_has_no_path(self):
-        path = listing.path_of(Filter("", jeq(0, 9, 0) + ret(ALLOW)), Call(0).words())
-        self.assertEqual((path.status, path.indexes, path.decision.fault.kind), (2, (), "Jump"))
-
 
 class List(Case):
     def listed(self, data, *words):
@@ -339,16 +335,13 @@ class Behind(Case):
         """Its program has two filters, the newest for i386; clone is let through, by the number."""
         jail = subprocess.Popen(["firejail", "--quiet", "--noprofile", "--seccomp", "cat"], stdin=subprocess.PIPE,
                                 stdout=subprocess.DEVNULL, stderr=subprocess.DEVNULL)
-        try:
-            comes(lambda: unless_refused("", text_of, f"/proc/{innermost(jail.pid)}/comm") == "cat\n"
-                  or jail.poll() is not None)
-            self.skip_if(jail.poll() is not None, "firejail doesn't run here")
-            pid = innermost(jail.pid)
-            profile = self.file("p.json", b'{"defaultAction":"SCMP_ACT_ALLOW","syscalls":[{"names":["clone"],'
-                                          b'"action":"SCMP_ACT_ERRNO"}]}')
-            out = self.run_tool("verify-process", "--no-more", str(pid), profile)[1]
-        finally:
-            jail.communicate()
+        self.addCleanup(jail.communicate)
+        comes(lambda: unless_refused("", text_of, f"/proc/{innermost(jail.pid)}/comm") == "cat\n"
+              or jail.poll() is not None)
+        self.skip_if(jail.poll() is not None, "firejail doesn't run here")
+        profile = self.file("p.json", b'{"defaultAction":"SCMP_ACT_ALLOW","syscalls":[{"names":["clone"],'
+                                      b'"action":"SCMP_ACT_ERRNO"}]}')
+        out = self.run_tool("verify-process", "--no-more", str(innermost(jail.pid)), profile)[1]
         self.assertTrue(out.startswith("more\ncall nr 56 "), out)
         header, tests = self.way([line[2:] for line in out.split("\n") if line.startswith("# ")])
         self.assertRegex(header, r"\Athe last tests on the path in (filter 0|0\.bpf), after ")
