@@ -1,6 +1,7 @@
 """tools/why: what it says of processes that filters killed or refused, by the kernel's records, cores and strace."""
 import json
 import os
+import pathlib
 import re
 import shutil
 import socket
@@ -106,11 +107,9 @@ class Records(Causes):
 
     def record(self, *stack, **settings):
         listener = Listener()
-        try:
-            process = self.confined(*stack, **settings)[0]
-            return process, next(listener.records_of(process))
-        finally:
-            listener.socket.close()
+        self.addCleanup(listener.socket.close)
+        process = self.confined(*stack, **settings)[0]
+        return process, next(listener.records_of(process))
 
     def test_each_action(self):
         for answer, flags, action in self.ANSWERS:
@@ -193,14 +192,10 @@ class Records(Causes):
         listener = Listener()
         self.addCleanup(listener.socket.close)
         silent = [self.confined(answering(answer))[0] for answer in (ERRNO | 1, TRAP, TRACE | 1, USER_NOTIF)]
-        before = text_of(audit_records.ACTIONS_LOGGED)
-        try:
-            with open(audit_records.ACTIONS_LOGGED, "w", encoding="ascii") as file:
-                file.write("kill_process")
-            silent += [self.confined(answering(answer), flags=WITH_LOG)[0] for answer in (ERRNO | 1, LOG, KILL_THREAD)]
-        finally:
-            with open(audit_records.ACTIONS_LOGGED, "w", encoding="ascii") as file:
-                file.write(before)
+        logged = pathlib.Path(audit_records.ACTIONS_LOGGED)
+        self.addCleanup(logged.write_text, logged.read_text(encoding="ascii"), encoding="ascii")
+        logged.write_text("kill_process", encoding="ascii")
+        silent += [self.confined(answering(answer), flags=WITH_LOG)[0] for answer in (ERRNO | 1, LOG, KILL_THREAD)]
         last = self.confined(answering(KILL_PROCESS))[0]
         while True:
             text = listener.socket.recv(1 << 16)[16:].decode("latin-1")
