@@ -751,9 +751,7 @@ class Registers(Case):
 
     def traced(self, calls, *words):
         """The lines of a log of these calls, in their order."""
-        log, made = os.path.join(self.folder, "log"), os.path.join(self.folder, "calls")
-        if not os.path.exists(made):
-            subprocess.run(["cc", "-x", "c", "-w", "-o", made, "-"], input=CALLS.encode(), check=True)
+        log, made = os.path.join(self.folder, "log"), self.built(CALLS)
         data = b"".join(struct.pack("<7q", *call) for call in calls)
         done = completed(["strace", "-n", "-o", log, *words, made], data)
         if done.returncode == 99 or done.returncode and not os.path.exists(log):

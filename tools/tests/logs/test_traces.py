@@ -294,9 +294,7 @@ class Containers(Case):
     """A container starts under the least profile with what its runtime calls, and not without."""
 
     def least(self, *words):
-        log = os.path.join(self.folder, "log")
-        if not os.path.exists(log):
-            completed(["strace", "-f", "-o", log, "busybox", "echo", "begun"], stdout=subprocess.DEVNULL, check=True)
+        log = self.strace("-f", "busybox", "echo", "begun")[0]
         out = self.of_status(0, self.run_tool("needs", "--widen", *words, log, self.file("p.json", profile_of())))
         return {**json.loads(out), "architectures": ["SCMP_ARCH_X86_64"]}
 
