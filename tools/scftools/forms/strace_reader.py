@@ -169,9 +169,6 @@ class Reader:
         self._room, self._line = LONGEST_LINE, 0
         self.begin()
 
-    def end_line(self, line: Line) -> None:
-        """The line is read."""
-
     def take_call(self, line: Line, architecture: str, is_judged: bool) -> None:
         """A syscall, of no architecture if none has its number; not judged if just others are under a filter."""
 
@@ -207,8 +204,7 @@ class Reader:
         read = Line.read(number, line)
         read.who = self._who(read.who)
         self.confinement.begins(read.who, itertools.islice(self._makers, MAKERS))
-        self._add(read)
-        self.end_line(read)
+        self.take_line(read)
         if read.text.startswith("+++ "):
             self.confinement.ends(read)
 
@@ -255,7 +251,8 @@ class Reader:
             self._architectures.setdefault(printed, architecture)
         return printed
 
-    def _add(self, line: Line) -> None:
+    def take_line(self, line: Line) -> None:
+        """Takes a line that isn't broken."""
         who, text = line.who, line.text
         mode = None if line.name else MODE.match(text)
         if line.name and text.endswith(UNFINISHED_MARK):

@@ -275,7 +275,8 @@ class _LogReader(Reader):
         failures, self._failed = self.log.failures, {}
         self.log.failures = Failures(before_load=failures.before_load + failures.count)
 
-    def end_line(self, line: Line) -> None:
+    def take_line(self, line: Line) -> None:
+        super().take_line(line)
         who, signal = line.who, SIGSYS_LINE.match(line.text)
         if signal and len(self._signals) < EVENTS:
             self._signals.append((who, signal[1], self._last.pop(who, None)))
