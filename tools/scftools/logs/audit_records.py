@@ -180,8 +180,7 @@ def syscall_in(line: str, at: int, tables: dict[str, Table]) -> tuple[int, int, 
     arch, number, *arguments = match.groups()
     architecture = architecture_of(arch)
     return number_of(number, architecture, tables), architecture, {
-        index: int(value, 16) for index, value in enumerate(arguments)
-        if re.fullmatch("(?:0x)?[0-9a-f]{1,16}", value)}
+        index: int(value, 16) for index, value in enumerate(arguments) if re.fullmatch("(?:0x)?[0-9a-f]{1,16}", value)}
 
 
 def is_of(line: str, process: int, since: float | None) -> bool:

@@ -25,11 +25,9 @@ from .events import CORE, RECORD, STRACE, Event, Found
 # Whether what is known of an answer is what filters or a profile answer.
 FITS, CONTRADICTS, UNKNOWN_FIT = "fits", "contradicts", "unknown"
 # What a source doesn't have.
-LACKS = {
-    RECORD: "the record has neither the arguments nor the data of the action, nor which filter gave it",
-    CORE: "the core doesn't have the action, nor which filter gave it",
-    STRACE: "strace doesn't show which filter gave the answer",
-}
+LACKS = {RECORD: "the record has neither the arguments nor the data of the action, nor which filter gave it",
+         CORE: "the core doesn't have the action, nor which filter gave it",
+         STRACE: "strace doesn't show which filter gave the answer"}
 
 
 @dataclass(frozen=True)

@@ -41,12 +41,10 @@ class Layout:
     name: int
 
 
-LAYOUTS = {
-    (2, MACHINE_X86_64): Layout(struct.Struct("<QQQIHHH"), struct.Struct("<IIQQQQQQ"), (2, 5), 32,
-                                (112, struct.Struct("<27Q"), REGISTERS), (16, struct.Struct("<QiI")), 40),
-    (1, MACHINE_386): Layout(struct.Struct("<IIIIHHH"), struct.Struct("<IIIIIIII"), (1, 4), 24,
-                             (72, struct.Struct("<13I"), REGISTERS_386), (12, struct.Struct("<IiI")), 28),
-}
+LAYOUTS = {(2, MACHINE_X86_64): Layout(struct.Struct("<QQQIHHH"), struct.Struct("<IIQQQQQQ"), (2, 5), 32,
+                                       (112, struct.Struct("<27Q"), REGISTERS), (16, struct.Struct("<QiI")), 40),
+           (1, MACHINE_386): Layout(struct.Struct("<IIIIHHH"), struct.Struct("<IIIIIIII"), (1, 4), 24,
+                                    (72, struct.Struct("<13I"), REGISTERS_386), (12, struct.Struct("<IiI")), 28)}
 
 
 def refused(why: str) -> program.ToolError:

@@ -49,8 +49,7 @@ class Draft:
         """The entries: of each answer first the names without conditions."""
         for answer, of_names in self.of.items():
             least = {name: [each for each in alternatives if not any(set(other) < set(each) for other in alternatives)]
-                     for name, alternatives in of_names.items()
-                     if answer.allows or name not in self.allowed}
+                     for name, alternatives in of_names.items() if answer.allows or name not in self.allowed}
             plain = [name for name, alternatives in least.items() if () in alternatives]
             if plain:
                 yield entry_of(plain, answer, ())

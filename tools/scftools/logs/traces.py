@@ -228,11 +228,10 @@ class Trace(Reader):
             self._by_name(f"{name} or {SEVERAL[name]}" if name in SEVERAL else SYSDIG_NAMES.get(name, name))
 
     # What other programs write: a mark in each such line, its pattern, and what takes it, unless that returns False.
-    _FORMATS = (
-        ("", LOSSES, lambda self, match: self.unjudged.update({LOST: int(match[1] or match[2])})),
-        ("): ", PERF, _take_perf), ("@", MAP, _take_map), ("sys_enter: NR ", SYS_ENTER, _take_sys_enter),
-        (") ", SYSDIG, _take_sysdig), ("", COUNTED, lambda self, match: self._by_name(match[1], int(match[2]))),
-        ("", HEADINGS, lambda *_: None))
+    _FORMATS = (("", LOSSES, lambda self, match: self.unjudged.update({LOST: int(match[1] or match[2])})),
+                ("): ", PERF, _take_perf), ("@", MAP, _take_map), ("sys_enter: NR ", SYS_ENTER, _take_sys_enter),
+                (") ", SYSDIG, _take_sysdig), ("", HEADINGS, lambda *_: None),
+                ("", COUNTED, lambda self, match: self._by_name(match[1], int(match[2]))))
 
     def add_profile(self, text: str) -> None:
         """Takes a profile that was made of a log: each syscall that it allows, with arguments that aren't known."""

@@ -201,8 +201,7 @@ class Templates(Lists):
                                         "is known of it",
             SNAP + "~read\n": "line 3: '~read' is denied, which newer snapds do by a second filter: no profile states "
                               "both",
-            SNAP + "@nosuch\n": "line 3: '@nosuch' isn't a directive of snap-seccomp",
-            SNAP: "it allows no syscall"})
+            SNAP + "@nosuch\n": "line 3: '@nosuch' isn't a directive of snap-seccomp", SNAP: "it allows no syscall"})
         status, _, err = self.run_tool("ask", self.file("list", SNAP + "chown u:nosuchuser\n"))
         self.assertEqual(status, 4)
         self.assertIn("line 3: this machine has no user 'nosuchuser'\n", err)

@@ -466,8 +466,7 @@ class Lines(Causes):
                      f"2026-11-27T05:35:00+0000 vm kernel: {WRITTEN}", f"[  624.561849] vm kernel: {WRITTEN}",
                      f"Nov 27 05:35:00 kernel: {WRITTEN}",
                      f"Nov 27 05:35:00 vm audisp-syslog[7]: node=vm type=SECCOMP msg=audit(1795757700.752:2): "
-                     f"auid={self.TAIL}",
-                     f"Nov 27 05:35:00 vm audit[12551]: SECCOMP auid={self.TAIL}",
+                     f"auid={self.TAIL}", f"Nov 27 05:35:00 vm audit[12551]: SECCOMP auid={self.TAIL}",
                      f"vm audit: SECCOMP auid={self.TAIL}",
                      f"type=SECCOMP msg=audit(1795757700.752:2): auid={self.TAIL}",
                      f"type=SECCOMP msg=audit(1795757700.752:2): auid={self.TAIL}\x1dAUID=\"unset\" "

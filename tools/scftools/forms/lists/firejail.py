@@ -247,9 +247,8 @@ def _rules_of(name: str, main: tuple[Answer, int], restricted: tuple[Restriction
     """The rules of a syscall that one or two filters answer: the stricter answer counts, and of two errnos that of the
     newer filter, which is the one of protocol, else the main one."""
     (answer, at), (restriction, restricted_at) = main, restricted or (None, 0)
-    denies = restriction is not None and (
-        ORDER.index(restriction.answer.action) < ORDER.index(answer.action) or
-        restriction.answer.action == answer.action and name == "socket")
+    denies = restriction is not None and (ORDER.index(restriction.answer.action) < ORDER.index(answer.action) or
+                                          restriction.answer.action == answer.action and name == "socket")
     if not denies:
         yield Rule(name, answer, (), at)
         return
