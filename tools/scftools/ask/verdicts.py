@@ -156,15 +156,14 @@ class Report:
 
 
 def _verdict(lines: Sequence[str]) -> Verdict | None:
-    word, _, text = lines[0].partition(" ")
     if lines[0] in FAILING:
         call = Call.read(lines[1]) if len(lines) > 3 else None
         sides = [] if call is None else [Answer.read(line.partition(" ")[2]) for line in lines[2:4]]
         return Verdict(lines[0], call, *sides)
     if lines[0] in (*HOLDING, UNFINISHED):
         return Verdict(lines[0])
-    place = re.fullmatch("at ([0-9]+)", text)
-    return Verdict(UNDECIDED, at=int(place[1])) if word == UNDECIDED and place else None
+    place = re.fullmatch(f"{UNDECIDED} at ([0-9]+)", lines[0])
+    return Verdict(UNDECIDED, at=int(place[1])) if place else None
 
 
 def report(text: str, pointer: int | None = 0, architecture: Architecture = JUDGED[NATIVE]) -> Report:

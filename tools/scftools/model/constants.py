@@ -66,8 +66,6 @@ def _unlike() -> dict[str, set[str]]:
 @functools.lru_cache(None)
 def numbers_on(architecture: str) -> dict[str, int]:
     """The constants that are on the architecture of this OCI name what they are on x86-64, and their numbers."""
-    if architecture == architectures.NATIVE:
-        return numbers()
     unlike = _unlike().get(architecture)
     return {} if unlike is None else {name: number for name, number in numbers().items() if name not in unlike}
 

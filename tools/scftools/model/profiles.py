@@ -210,10 +210,9 @@ def parts_of(top: dict[str, Any]) -> Iterator[tuple[tuple[int, ...], Any, dict[s
 def unread_members(data: bytes) -> Iterator[tuple[str, str, Sequence[str]]]:
     """The members of a profile that no program reads, or Go's alone: where each is, its name, and the known ones."""
     top = _top(data)
-    for place, value, members in parts_of(top) if "defaultAction" in top else ():
-        if not value.keys() <= members.keys():
-            where = PLACES[len(place)].format(*place)
-            yield from ((where, name, tuple(members)) for name in value if name not in (*members, "comment"))
+    return ((PLACES[len(place)].format(*place), name, tuple(members))
+            for place, value, members in (parts_of(top) if "defaultAction" in top else ())
+            for name in value if name not in members and name != "comment")
 
 
 def errno_by_name(data: bytes) -> str | None:
