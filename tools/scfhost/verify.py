@@ -34,12 +34,8 @@ class Block:
     judged: Judgement | None = None
     # by architecture the least number that runc answers with ENOSYS, if it does so here
     stub: dict[str, int] = field(default_factory=dict)
-
-    @property
-    def is_of_all(self) -> bool:
-        """Whether every stack would have this fault."""
-        fault = self.judged and self.judged.first.fault
-        return fault is not None and fault.source in OF_ALL
+    # whether every stack would have this fault
+    is_of_all: bool = False
 
 
 @dataclass(frozen=True)
@@ -80,9 +76,9 @@ class Request:
 
     def judge(self, stack: Stack) -> Block:
         judged = Judgement.of([each.comparison(stack.named) for each in self.parts], self.scope)
-        word = judged.first.verdict and judged.first.verdict.word
+        fault, word = judged.first.fault, judged.first.verdict and judged.first.verdict.word
         stub = judged.comparison.right.stub if word == verdicts.SAME and not self.saved else {}
-        return Block(stack, judged.status, word, judged, stub)
+        return Block(stack, judged.status, word, judged, stub, fault is not None and fault.source in OF_ALL)
 
     def comparison(self, stack: Sequence[Filter], relation: str | None = None) -> Any:
         """The comparison of filters with the profile, or with those that were saved."""
