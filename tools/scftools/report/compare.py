@@ -41,6 +41,7 @@ class Pair:
     relation: str = SAME
     # whether profiles are judged for x86-64 alone, whatever they name
     is_native: bool = False
+    # (the side that judges is the one at `1 - is_turned`)
     is_turned: bool = False
     is_diff: bool = False
     # the OCI names of ABIs that aren't asked about, since another profile has them
@@ -83,18 +84,13 @@ class Pair:
         """The words for both sides in lines and objects, the left one first."""
         return self.kinds if not self.is_diff else ("old", "new") if self.is_turned else ("new", "old")
 
-    @property
-    def judging(self) -> int:
-        """Which side judges: 0 for the left one."""
-        return 0 if self.is_turned else 1
-
     def in_order(self, left: Any, right: Any) -> tuple[Any, Any]:
         """What belongs to both sides as they are shown: the judged side is the first, and in a diff the last."""
         return (right, left) if self.is_turned != self.is_diff else (left, right)
 
     def title(self, at: int) -> str:
         """What a side is called in sentences."""
-        side, is_other = self.sides[at], at == self.judging and self.beside == bundles.BESIDE
+        side, is_other = self.sides[at], at != self.is_turned and self.beside == bundles.BESIDE
         noun = "profile" if isinstance(side, ProfileInput) else "filter" + "s" * (len(side) > 1)
         return " ".join(filter(None, ["the", self.names[at] if self.is_diff else "other" * is_other, noun]))
 

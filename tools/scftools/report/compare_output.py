@@ -81,7 +81,7 @@ def newer_calls(comparison: Pair, scope: str) -> Newer | None:
 
 
 def _failed(comparison: Pair, word: str) -> str:
-    return FAILED_RELATIONS[comparison.word(word)].format(comparison.title(comparison.judging))
+    return FAILED_RELATIONS[comparison.word(word)].format(comparison.title(1 - comparison.is_turned))
 
 
 def count_lines(comparison: Pair, calls: Sequence[NamedCall]) -> Iterator[str]:
@@ -130,7 +130,7 @@ def _strictness_lines(comparison: Pair, scope: str) -> Iterator[str]:
     """A line if the sides differ, and the judged one is never more permissive."""
     no_more, no_less = _dispositions(comparison, scope)
     hold = [verdict is not None and verdict.holds for verdict in (no_more, no_less)]
-    judged, other = comparison.sides[1 - comparison.judging], comparison.title(comparison.judging)
+    judged, other = comparison.sides[comparison.is_turned], comparison.title(1 - comparison.is_turned)
     are_several = not isinstance(judged, ProfileInput) and len(judged) > 1
     they, are, s = ("they", "are", "") if are_several else ("it", "is", "s")
     they = f"over the syscalls in the table: {they}" if scope == CALLS else they

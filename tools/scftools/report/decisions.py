@@ -128,20 +128,18 @@ def queries(options: Any, table: Table) -> list[Query]:
     of syscalls a line that begins with `#` is a comment."""
     numbering = Numbering(options, table)
     calls = [[number] for text in options.nr for number in text.split(",")] + [options.call] * bool(options.call)
-    if options.calls_from is None:
-        calls = calls or [["0"]]
-    else:
-        before = len(calls)
-        for line in inputs.read_whole(options.calls_from, "list of syscalls").decode(
-                "utf-8", "surrogateescape").split("\n"):
-            words = line.split()
-            if words and not words[0].startswith("#"):
-                if len(words) > 7 or "\0" in line or max(map(len, words)) > LONGEST_WORD:
-                    raise program.ToolError(f"a line of the list isn't a syscall and up to six numbers: {line[:80]}")
-                calls.append(words)
-                if len(calls) - before > MOST_CALLS:
-                    raise program.ToolError(f"the list has more than {MOST_CALLS} syscalls")
-    return [numbering.query(*words) for words in calls]
+    text = b"" if options.calls_from is None else inputs.read_whole(options.calls_from, "list of syscalls")
+    listed: list[list[str]] = []
+    for line in text.decode("utf-8", "surrogateescape").split("\n"):
+        words = line.split()
+        if words and not words[0].startswith("#"):
+            if len(words) > 7 or "\0" in line or max(map(len, words)) > LONGEST_WORD:
+                raise program.ToolError(f"a line of the list isn't a syscall and up to six numbers: {line[:80]}")
+            listed.append(words)
+            if len(listed) > MOST_CALLS:
+                raise program.ToolError(f"the list has more than {MOST_CALLS} syscalls")
+    calls = calls or [["0"]] * (options.calls_from is None)
+    return [numbering.query(*words) for words in calls + listed]
 
 
 def record_words(options: Any) -> list[str] | None:
