@@ -16,7 +16,7 @@ from ..ask.questions import EVERYTHING, NOTHING, Asker
 from ..ask.verdicts import NO_LESS, NO_MORE, SAME
 from ..forms.filters import Filter
 from .condition_texts import alternatives_text
-from .covers import MOST_ALTERNATIVES, Alternative
+from .covers import Alternative
 from .profile_of import UNFINISHED_TEXT, FilterAnswers, entry_of
 from .surfaces import Row, Surface
 
@@ -98,21 +98,19 @@ def _of_answers(answers: FilterAnswers, number_answers: Answers) -> \
     return (otherwise, others, True) if others else None
 
 
-def _failed(asker: Asker, drafts: Sequence[tuple[Row, Conditions]]) -> set[int]:
-    """The numbers for which scf doesn't prove these conditions, which have one answer otherwise."""
+def _proved(asker: Asker, drafts: Sequence[tuple[Row, Conditions]]) -> set[int]:
+    """The numbers for which scf proves these conditions, which have one answer otherwise; none if they are too many."""
     entries = [entry_of(conditions.names[:1], answer, alternative) for _, conditions in drafts
                for answer, alternatives in conditions.parts for alternative in alternatives]
-    if len(entries) > MOST_ALTERNATIVES:
-        return {row.number for row, _ in drafts}
     table = "".join(f"{conditions.names[0]} {row.number}\n" for row, conditions in drafts).encode()
     profile = {**drafts[0][1].otherwise.default(), "architectures": [asker.architecture.oci], "syscalls": entries}
-    data, failed = profiles.read_as(json.dumps(profile).encode(), profiles.SANDBOX), set()
-    for relation in (SAME,) if drafts[0][1].is_whole else (NO_MORE, NO_LESS):
-        try:
-            failed |= {call.number for call in asker.of_calls(data, relation, table).calls}
-        except Refusal:
-            return {row.number for row, _ in drafts}
-    return failed
+    data = profiles.read_as(json.dumps(profile).encode(), profiles.SANDBOX)
+    try:
+        return {row.number for row, _ in drafts}.difference(
+            call.number for relation in ((SAME,) if drafts[0][1].is_whole else (NO_MORE, NO_LESS))
+            for call in asker.of_calls(data, relation, table).calls)
+    except Refusal:
+        return set()
 
 
 def add(surface: Surface) -> list[str]:
@@ -134,7 +132,7 @@ def add(surface: Surface) -> list[str]:
     except TooMany:
         return unfinished
     for drafts in groups.values():
-        failed = _failed(asker, drafts)
+        proved = _proved(asker, drafts)
         for row, conditions in drafts:
-            row.conditions = None if row.number in failed else conditions
+            row.conditions = conditions if row.number in proved else None
     return unfinished if answers.is_unfinished else []
