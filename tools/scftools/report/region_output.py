@@ -69,13 +69,11 @@ def conditions(region: Region, syscall: str, architecture: Architecture) -> list
         low, high = (region.words.get(ARGUMENTS + 2 * index + half, FREE) for half in (0, 1))
         # (the instruction pointer has no constants)
         name, of = ("ip", "") if index == POINTER else (name_of(syscall, index), syscall)
-        at = max(index, 0)
-        if architecture.bits == 32 and index != POINTER:
+        at, is_narrow = max(index, 0), architecture.bits == 32 and index != POINTER
+        if is_narrow or list(high.intervals) == [(0, 0)]:
             terms += _terms(name, at, low, of, architecture)
-        elif list(high.intervals) == [(0, 0)]:
-            terms += _terms(name, at, low, of, architecture)
-            if low.intervals[-1][1] == GREATEST_WORD and list(low.intervals) != [(GREATEST_WORD, GREATEST_WORD)]:
-                terms.append(f"{name} >> 32 == 0")
+            has_greatest = low.intervals[-1][1] == GREATEST_WORD and low.intervals[0][0] < GREATEST_WORD
+            terms += [f"{name} >> 32 == 0"] * (has_greatest and not is_narrow)
         else:
             terms += [*_terms(f"(u32){name}", at, low, of, architecture),
                       *_terms(f"{name} >> 32", at, high, "", architecture)]
