@@ -248,14 +248,13 @@ class ExpectedRow:
     action: str
     data: int | None
 
-    def describe(self, answer: Answer) -> str:
-        """The line on the answer that filters give instead."""
+    def unmet(self, answer: Answer, table: Table) -> Block:
+        """What is said where filters give another answer."""
         expected = self.action if self.data is None else str(Answer(self.action, self.data))
-        return f"line {self.line}: {output.escaped(self.text)} is answered by {answer}, not by {expected}"
-
-    def as_json(self, answer: Answer, table: Table) -> dict[str, object]:
-        return {"status": program.NEGATIVE, "call": self.call.as_json(table), "answer": answer.as_json(),
-                "line": self.line, "expected": {"action": self.action, "data": self.data}}
+        line = f"line {self.line}: {output.escaped(self.text)} is answered by {answer}, not by {expected}"
+        return Block(program.NEGATIVE, lambda: [line], lambda: {
+            "call": self.call.as_json(table), "answer": answer.as_json(), "line": self.line,
+            "expected": {"action": self.action, "data": self.data}})
 
 
 def _row(line: int, text: str, numbering: Numbering) -> ExpectedRow:
@@ -312,8 +311,7 @@ def unmet_block(options: Any, table: Table, stack: Sequence[Filter]) -> Block:
         if answer is None:
             raise program.InternalError(f"scf has no answer to {' '.join(row.call.words())}")
         if answer.action != row.action or row.data not in (None, answer.data):
-            unmet.append((row, answer))
-    counted = f"rows: {len(rows)}; answered otherwise than expected: {len(unmet)}"
-    return Block(program.NEGATIVE if unmet else program.SUCCESS,
-                 lambda: [*(row.describe(answer) for row, answer in unmet), *output.notes([counted])],
-                 lambda: {"calls": [row.as_json(answer, table) for row, answer in unmet], "rows": len(rows)})
+            unmet.append(row.unmet(answer, table))
+    whole, counted = replies(unmet), f"rows: {len(rows)}; answered otherwise than expected: {len(unmet)}"
+    return Block(whole.status, lambda: [*whole.lines(), *output.notes([counted])],
+                 lambda: {**whole.members(), "rows": len(rows)})
