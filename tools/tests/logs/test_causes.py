@@ -20,6 +20,7 @@ from scftools.model import bpf, tables
 from scftools.forms.filters import Filter
 from scftools.logs import audit_records, cores, events
 from scftools.logs.causes import Inputs
+from scfhost import ptrace
 
 TABLE = tables.read_table(None)
 SOCKET, AF_NETLINK = 41, 16
@@ -541,7 +542,9 @@ class Lines(Causes):
         with unittest.mock.patch.multiple(audit_records, AUDITD_LOG=log, kernel_lines=lambda: iter([WRITTEN])):
             for begun, numbers in ((None, [41, 1, 2]), (1795757600.0, [41, 2]), (1795757701.5, [41, 2]),
                                    (1795757800.0, [])):
-                with unittest.mock.patch.object(why, "started", lambda _, begun=begun: begun):
+                ticks = None if begun is None else (begun - 1795750000) * os.sysconf("SC_CLK_TCK")
+                with unittest.mock.patch.multiple(ptrace, ticks_at_start=lambda _, ticks=ticks: ticks,
+                                                  contents=lambda _: b"btime 1795750000\n"):
                     log_read, _ = why.of_process(options, None, TABLE)
                 self.assertEqual([found.event.call.number for found in log_read.events.values()], numbers, begun)
 
