@@ -8,7 +8,7 @@ program loads.
 The folder is created if it doesn't exist, and must hold no *.bpf. The filters are written oldest first, as 0.bpf, 1.bpf
 and so on (00.bpf if there are more than ten, so that *.bpf lists them in order); each file's name is printed on a line.
 Filters belong to threads: all threads of the process are read, and if they don't have the same filters, the tool says
-so, with status 3; --thread takes those of one thread. PID may also be a thread's number, and stands for its process.
+so, with status 2; --thread takes those of one thread. PID may also be a thread's number, and stands for its process.
 
 With a PROGRAM it is run under strace to its end, which needs no rights, with the terminal, input and output as ever;
 the filters are those that it and what it starts hand to the kernel, each with what its process had before. Without a
