@@ -14,7 +14,7 @@ from collections.abc import Iterable, Iterator, Sequence
 from itertools import islice
 
 from scftools.base import child, output, program
-from scftools.base.values import Any, replace
+from scftools.base.values import Any, by_key, replace
 from scftools.model import architectures, tables
 from scftools.model.bundles import stack_bundle
 from scftools.model.profiles import not_compared_of
@@ -260,9 +260,7 @@ class Assessor:
 
     def fill(self, rows: Iterable[AuditRow]) -> None:
         """Adds the parts of rows. What takes longer than its share has what others left, in the end."""
-        by_user: dict[int | None, list[AuditRow]] = {}
-        for row in rows:
-            by_user.setdefault(row.user, []).append(row)
+        by_user = by_key((row.user, row) for row in rows)
         of_root = [self.task(None, [row]) for row in by_user.pop(None, ())]
         of_users = [self.task(user, by_user[user]) for user in sorted(by_user)]
         for budget, batches in ((self.of_root, [of_root]), (self.of_users, [[task] for task in of_users])):

@@ -9,7 +9,7 @@ from collections import Counter
 from collections.abc import Iterable, Iterator
 
 from scftools.base import output
-from scftools.base.values import Any, dataclass
+from scftools.base.values import Any, by_key, dataclass
 from scftools.model.tables import Table
 from scftools.ask import client
 from scftools.ask.verdicts import OTHERWISE
@@ -340,11 +340,8 @@ def _findings(audit: Audit, table_of: Table) -> Iterator[Markup]:
         AS_CONFIGURED, STRICTER) and (part.judgement.why is not None or part.judgement.shown is not None)]
     if not bad:
         yield tag("p", "Nothing is weaker than configured, otherwise, or not known.")
-    alike: dict[object, list[tuple[AuditRow, RowPart]]] = {}
-    for row, part in bad:
-        reason = row.user, part.judgement.verdict, part.judgement.why, part.judgement.shown
-        alike.setdefault(reason, []).append((row, part))
-    for pairs in alike.values():
+    for pairs in by_key(((row.user, part.judgement.verdict, part.judgement.why, part.judgement.shown), (row, part))
+                        for row, part in bad).values():
         judgement, names = pairs[0][1].judgement, dict.fromkeys(row_text(row) for row, _ in pairs)
         yield tag("h3", _coloured(judgement.verdict), f" {', '.join(names)}")
         yield from _shown(judgement, table_of)
@@ -357,8 +354,7 @@ def _overview(audit: Audit, earlier: Earlier | None) -> Iterator[Markup]:
     """What there is, what changed since an earlier audit, and the rows."""
     system, version = os.uname(), client.run_scf(["--version"]).text.strip()
     yield tag("h1", f"seccomp audit of {output.escaped(system.nodename)}")
-    yield tag("p", f"{output.time_text(audit.time)} · Linux {system.release} · {version} · {audit.seconds:.2f} "
-                   "seconds")
+    yield tag("p", f"{output.time_text(audit.time)} · Linux {system.release} · {version} · {audit.seconds:.2f} seconds")
     yield listed(summary(audit))
     yield tag("p", PROVED, class_="faint")
     if earlier is not None:

@@ -95,11 +95,9 @@ def other_runtime(identifiers: Sequence[str], runtime: str | None) -> str | None
 
 
 def why_not_its(kernel: Kernel, process: int, config: dict[str, Any]) -> str | None:
-    """Why a configuration isn't that of the container that a process is in; None if it may be.
-
-    A container's identifier stands in the path that its configuration gives its control group, and in that of the
-    groups of its processes; and where a configuration makes a PID namespace, its processes aren't in the machine's own.
-    """
+    """Why a configuration isn't that of the container that a process is in; None if it may be. A container's identifier
+    stands in the path that its configuration gives its control group, and in that of the groups of its processes; and
+    where a configuration makes a PID namespace, its processes aren't in the machine's own."""
     linux, who = part(config, "linux", dict), f"process {process} ({output.escaped(kernel.name_of(process))})"
     stated, actual = identifiers_in(part(linux, "cgroupsPath", str)), identifiers_of(kernel, process)
     if stated and actual and stated[-1] not in actual:

@@ -104,10 +104,8 @@ def known_groups(roots: Sequence[bytes], path: bytes) -> Iterator[bytes]:
 
 
 def group_of(kernel: Kernel, process: int) -> Group | None:
-    """The control group of a process's container, or None if the process is in the root group.
-
-    In a cgroup namespace the kernel shows its root as `/`, whichever group that is, and groups outside as `/..`.
-    """
+    """The control group of a process's container, or None if the process is in the root group. In a cgroup namespace
+    the kernel shows its root as `/`, whichever group that is, and groups outside as `/..`."""
     groups, roots = groups_of(kernel, process), kernel.mounted_groups(process)
     inside = [name for name in HIERARCHIES if groups.get(name, b"/") != b"/"]
     for path in (groups[name] for name in inside):

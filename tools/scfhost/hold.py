@@ -122,8 +122,7 @@ class Hold:
         # is soon believed; and the same before the last listing.
         self.refused: dict[int, tuple[float, int, bool]] = {}
         self.refused_before: dict[int, tuple[float, int, bool]] = {}
-        # Held by this thread, but for the time in which it waits in PTRACE_SEIZE; then the other one waits for threads,
-        # and puts down here what became of them.
+        # Held by this thread, but while it waits in PTRACE_SEIZE: then the other one waits for threads, and says how.
         self.lock, self.reaper = threading.Lock(), threading.Thread(target=self.reap, daemon=True)
         self.states: dict[int, int] = {}
         self.is_over = False
@@ -146,11 +145,9 @@ class Hold:
             self.lock.release()
 
     def reap(self) -> None:
-        """Waits for threads while the tracing one waits in PTRACE_SEIZE.
-
-        That waits for a thread which executes a program, and this one in turn for the others of its process to end, of
-        which the traced ones do only once they are waited for.
-        """
+        """Waits for threads while the tracing one waits in PTRACE_SEIZE. That waits for a thread which executes a
+        program, and this one in turn for the others of its process to end, of which the traced ones do only once they
+        are waited for."""
         while not self.is_over:
             time.sleep(PAUSE)
             with self.lock:
@@ -330,11 +327,9 @@ def why_not_shown(this: str, error: OSError) -> str:
 
 
 def filter_at(kernel: Kernel, thread: int, process: int, index: int) -> bytes | None:
-    """The bytes of the filter with this index, 0 being the oldest, or None behind the newest.
-
-    ptrace(2) says that 0 is the newest; the kernel counts from the oldest (get_nth_filter in kernel/seccomp.c). The
-    length is queried before the copy and returned by it, and the buffer has room for the longest filter.
-    """
+    """The bytes of the filter with this index, 0 being the oldest, or None behind the newest. ptrace(2) says that 0 is
+    the newest; the kernel counts from the oldest (get_nth_filter in kernel/seccomp.c). The length is queried before the
+    copy and returned by it, and the buffer has room for the longest filter."""
     import ctypes  # pylint: disable=import-outside-toplevel
 
     room = ctypes.create_string_buffer(BPF_MAXINSNS * INSTRUCTION.size)

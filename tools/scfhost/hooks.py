@@ -20,7 +20,7 @@ import time
 from collections.abc import Callable, Sequence
 
 from scftools.base import child, inputs, output, program
-from scftools.base.values import Any, dataclass, unless_refused
+from scftools.base.values import Any, by_key, dataclass, unless_refused
 from scftools.model import profiles
 from scftools.ask import verdicts
 from scftools.forms import engines
@@ -128,10 +128,8 @@ def members_of(kernel: Kernel, pid: int) -> containers.Container:
 
 
 def descendants(kernel: Kernel, pid: int) -> list[int]:
-    children: dict[str, list[int]] = {}
-    for number in kernel.processes():
-        if number != pid:
-            children.setdefault(kernel.status_of(number).get("PPid", ""), []).append(number)
+    others = (number for number in kernel.processes() if number != pid)
+    children = by_key((kernel.status_of(number).get("PPid", ""), number) for number in others)
     numbers = [pid]
     for ancestor in numbers:
         numbers += children.pop(str(ancestor), ())
@@ -274,11 +272,9 @@ def unknown(status: int | None, seconds: float) -> HookResult:
 
 
 class Watchdog:
-    """A process that acts at a deadline, or as soon as its parent has ended, unless it is dismissed before.
-
-    It takes no signal but SIGKILL and SIGSTOP, and has a process group of its own, so that what ends or stops the
-    hook's group leaves it alone. A hook that still exists after it has acted hangs or is stopped: it is killed.
-    """
+    """A process that acts at a deadline, or as soon as its parent has ended, unless it is dismissed before. It takes no
+    signal but SIGKILL and SIGSTOP, and has a process group of its own, so that what ends or stops the hook's group
+    leaves it alone. A hook that still exists after it has acted hangs or is stopped: it is killed."""
 
     def __init__(self, act: Callable[[], object], until: float) -> None:
         # The hook keeps both ends: a write to a watchdog that has ended isn't to end the hook.

@@ -16,7 +16,7 @@ import os
 from collections.abc import Callable, Collection, Iterator, Sequence
 
 from scftools.base import output, program
-from scftools.base.values import Any, dataclass, field, unless_refused
+from scftools.base.values import Any, by_key, dataclass, field, unless_refused
 from scftools.model import architectures, libseccomp
 from scftools.model.answers import ALLOW, ENOSYS, KILL_PROCESS, Answer
 from scftools.model.architectures import NATIVE
@@ -55,10 +55,8 @@ MOST_FILE_BYTES, MOST_TOLD = 1 << 20, 20
 
 @dataclass
 class CallList:
-    """The calls of SystemCallFilter= or SystemCallLog=, each with an answer of its own or None.
-
-    A list that is inverted names what is denied, or isn't logged. In one that isn't, a call with an answer is denied.
-    """
+    """The calls of SystemCallFilter= or SystemCallLog=, each with an answer of its own or None. A list that is inverted
+    names what is denied, or isn't logged. In one that isn't, a call with an answer is denied."""
 
     is_inverted: bool
     calls: dict[str, Answer | None] = field(default_factory=dict)
@@ -101,8 +99,7 @@ class UnitSettings:
             if errno_answer is not None or (listed_name in self.filter.calls) == self.filter.is_inverted:
                 is_known = self.known_names is None or listed_name in self.known_names
                 return errno_answer or (self.refusal if is_known else ENOSYS)
-        is_logged = self.log is not None and (
-            name in self.log.calls or first in self.log.calls) != self.log.is_inverted
+        is_logged = self.log is not None and (name in self.log.calls or first in self.log.calls) != self.log.is_inverted
         return Answer("LOG", 0) if is_logged else ALLOW
 
 
@@ -116,10 +113,8 @@ def architectures_of(text: str) -> list[str]:
 
 
 class ListReader:
-    """Reads lists of syscalls; asks for groups if a list names one, and reports what is left out.
-
-    A name that systemd's libseccomp doesn't know is left out, as systemd does; without a libseccomp, none is.
-    """
+    """Reads lists of syscalls; asks for groups if a list names one, and reports what is left out. A name that systemd's
+    libseccomp doesn't know is left out, as systemd does; without a libseccomp, none is."""
 
     def __init__(self, groups: Callable[[], dict[str, list[str]]], tell: Callable[[str], None],
                  is_call: Callable[[str], bool] = lambda name: True, is_lenient: bool = False) -> None:
@@ -248,8 +243,7 @@ def files_of(shown: dict[str, str]) -> Iterator[str]:
     """The texts of a unit's files as systemd read them: its own, then drop-ins. Raises ValueError, as `denied_by`."""
     import shlex  # pylint: disable=import-outside-toplevel
 
-    # (a tool in a container of the machine has another root; only root may look, and others aren't in one with the
-    # machine's processes)
+    # (a tool in a container has another root than the machine; only root may look, and others see other processes)
     root = "" if unless_refused(True, os.path.samefile, "/proc/1/root", "/") else "/proc/1/root"
     for path in [shown.get("FragmentPath", ""), *shlex.split(shown.get("DropInPaths", ""))]:
         try:
@@ -264,9 +258,7 @@ def files_of(shown: dict[str, str]) -> Iterator[str]:
 
 def denied_by(shown: dict[str, str], allowed: CallList, reader: ListReader) -> dict[str, Answer | None]:
     """The syscalls that an allow-list denies with an errno of their own, as in `SystemCallFilter=~clone3:EINVAL`.
-
-    systemd doesn't show them (property_get_syscall_filter of its core/dbus-execute.c), so the unit's files are read.
-    """
+    systemd doesn't show them (property_get_syscall_filter of its core/dbus-execute.c), so the unit's files are read."""
     if shown.get("NeedDaemonReload") != "no":
         raise ValueError("its files changed since systemd read them; run systemctl daemon-reload")
     section = SECTIONS.get(shown.get("Id", "").rpartition(".")[2], "")
@@ -330,17 +322,15 @@ def settings_in(shown: dict[str, str], unit: str, reader: ListReader) -> UnitSet
 
 def groups_of(settings: UnitSettings) -> list[list[str]]:
     """The architectures that a unit permits, together with those on which the same is denied; the native one first."""
-    groups: dict[str, list[str]] = {}
-    for oci in settings.architectures:
-        groups.setdefault(repr(unit_restrictions.rules_of(settings.restrictions, oci)), []).append(oci)
-    return list(groups.values())
+    return list(by_key((repr(unit_restrictions.rules_of(settings.restrictions, oci)), oci)
+                       for oci in settings.architectures).values())
 
 
 def _answers_to(settings: UnitSettings, name: str, restriction: Restriction | None,
                 is_multiplexer: bool) -> Iterator[tuple[Answer, Alternative]]:
-    """The answers to a syscall with their conditions. The lists answer what they deny, and a restriction the rest.
-    Where a list doesn't name i386's socketcall or ipc, libseccomp adds the rules of what that is called for: each names
-    it by argument 0."""
+    """The answers to a syscall with their conditions: the lists answer what they deny, and a restriction the rest.
+    Where no list names i386's socketcall or ipc, libseccomp adds the rules of what these are called for, by argument
+    0."""
     answer, allowed = settings.answer_of(name), [()]
     if is_multiplexer:
         answers = {number: settings.answer_of(call, name) for call, number in libseccomp.CALL_NUMBERS[name].items()}

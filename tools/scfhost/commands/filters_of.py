@@ -71,10 +71,8 @@ def of_program(options):
 
 
 def write(named, folder):
-    """Writes the filters, over no file, and prints their files' names; none is left where one can't be written.
-
-    Whoever may write beside the folder may replace it meanwhile, so it stays open.
-    """
+    """Writes the filters, over no file, and prints their files' names; none is left where one can't be written. Whoever
+    may write beside the folder may replace it meanwhile, so it stays open."""
     written, at = [], os.open(folder, os.O_PATH | os.O_DIRECTORY | os.O_CLOEXEC)
     try:
         for stack in named:

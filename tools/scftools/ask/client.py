@@ -163,8 +163,7 @@ def run_scf(words: Sequence[str], given: bytes | None = b"", seconds: float | No
             most: int = MOST_OF_ANSWER) -> Run:
     """Runs scf on these bytes, or if they are None on this process's standard input. After so many seconds of CPU time
     it is killed, and the result is empty and UNKNOWN; after so many bytes it is, too, and the result is `unfinished`.
-    If scf isn't built, its launcher builds it, which takes long; without `may_build` the result is empty and NOT_BUILT.
-    """
+    If scf isn't built, its launcher builds it, which takes long; without `may_build` it is empty and NOT_BUILT."""
     if given is None or not program.is_tool:
         return _run(words, given, seconds, may_build, most)
     question = tuple(words), given

@@ -12,7 +12,7 @@ import functools
 from collections.abc import Callable, Collection, Iterable, Iterator, Mapping, Sequence
 
 from ..base import program
-from ..base.values import Pattern
+from ..base.values import Pattern, by_key
 from ..model import architectures, bundles
 from ..model.answers import DISPOSITIONS, Answer
 from ..model.architectures import JUDGED, Architecture
@@ -229,11 +229,9 @@ class Numbers:
         self._all = [region for region in regions or () if has(region.words.get(ARCHITECTURE, FREE))]
         # ranges of numbers with the same regions; None if they are too many
         self.ranges: list[tuple[int, int, list[Region]]] | None = None
-        starting: dict[int, list[tuple[int, Region]]] = {}
         try:
-            for region in self._all:
-                for low, high in region.words.get(NUMBER, FREE).within(self.first, self.last):
-                    starting.setdefault(low, []).append((high, region))
+            starting = by_key((low, (high, region)) for region in self._all
+                              for low, high in region.words.get(NUMBER, FREE).within(self.first, self.last))
         except TooManyRanges:
             return
         ends = (high + 1 for parts in starting.values() for high, _ in parts)

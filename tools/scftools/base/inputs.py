@@ -12,10 +12,10 @@ from . import output, program
 
 # The most bytes of what scf reads: a filter of 4096 instructions, a profile, a table, the number of a stub, counts of
 # syscalls; and of what only the tools read: an engine's profile, a kernel header, a list of syscalls to try; an
-# assembler's text, and the lines of explain; an object that audit printed; a core's notes; and a container's state.
+# assembler's text, and the lines of explain; an object that audit printed; a core's notes; a container's state; rows.
 LIMITS = {"bundle": 1 << 24, "filter": 1 << 15, "profile": 1 << 22, "table": 1 << 22, "stub": 1 << 10,
           "counts": 1 << 22, "engine's profile": 1 << 22, "header": 1 << 22, "list of syscalls": 1 << 16,
-          "text": 1 << 24, "object": 1 << 24, "core": 1 << 24, "state": 1 << 20}
+          "text": 1 << 24, "object": 1 << 24, "core": 1 << 24, "state": 1 << 20, "file of rows": 1 << 24}
 # How words begin that aren't files: the number of a process, the name of a unit.
 PROCESS, UNIT = "pid:", "unit:"
 # The most bytes that are read of a line of a log or of rows.

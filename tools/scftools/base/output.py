@@ -139,10 +139,8 @@ def put_json(value: dict[str, object]) -> None:
 
 
 def replace_file(path: str, text: str) -> None:
-    """Writes a file at once: who reads it meanwhile sees the old one or the new one.
-
-    Whoever may write in its folder may replace each name in it meanwhile, so the open folder and file are used.
-    """
+    """Writes a file at once: who reads it meanwhile sees the old one or the new one. Whoever may write in its folder
+    may replace each name in it meanwhile, so the open folder and file are used."""
     folder, name = os.path.split(path)
     try:
         at = os.open(folder or ".", os.O_PATH | os.O_DIRECTORY | os.O_CLOEXEC)

@@ -75,9 +75,7 @@ def why_it_lacks(error: ImportError) -> str:
 
 def why_it_failed(error: Exception) -> str:
     """The line on an exception that nothing expects, with the last line of the tools' own modules that was run.
-
-    Python's own status would mean that something differs.
-    """
+    Python's own status would mean that something differs."""
     frame, place = error.__traceback__, "the start"
     while frame is not None:
         path = frame.tb_frame.f_code.co_filename

@@ -142,8 +142,7 @@ class Formatter(argparse.HelpFormatter):
     """The form of help: paragraphs stay apart."""
 
     def _fill_text(self, text: str, width: int, indent: str) -> str:
-        return "\n\n".join(super(Formatter, self)._fill_text(paragraph, width, indent)
-                           for paragraph in text.split("\n\n"))
+        return "\n\n".join(super(Formatter, self)._fill_text(part, width, indent) for part in text.split("\n\n"))
 
 
 class Parser(argparse.ArgumentParser):

@@ -55,7 +55,7 @@ Examples:
 from collections import Counter
 
 from ..base import inputs, output, program
-from ..base.values import Pattern
+from ..base.values import Pattern, by_key
 from ..model import bundles, tables
 from ..model.answers import ALLOW
 from ..model.architectures import JUDGED
@@ -106,10 +106,10 @@ def read_counts(file, profile, judged, has_bitmap):
         program.say(f"{UNKNOWN}: {output.some(list(unknown), tables.MOST_LISTED)}")
     if has_bitmap and counts:
         counts = without_allowed(counts, profile, judged)
-    divisor, lines = max(counts.values(), default=0) // GREATEST + 1, {}
-    for (architecture, name), count in counts.items():
-        # (a count above 0 stays so)
-        lines.setdefault(architecture, []).append(f"{name} {(count + divisor - 1) // divisor}\n")
+    divisor = max(counts.values(), default=0) // GREATEST + 1
+    # (a count above 0 stays so)
+    lines = by_key((architecture, f"{name} {(count + divisor - 1) // divisor}\n")
+                   for (architecture, name), count in counts.items())
     return [(f"counts-{architecture.kind}", "".join(its).encode()) for architecture, its in lines.items()]
 
 

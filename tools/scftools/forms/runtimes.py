@@ -13,7 +13,7 @@ import types
 from collections.abc import Iterator, Sequence
 
 from ..base import inputs, program
-from ..base.values import Any, dataclass, replace
+from ..base.values import Any, by_key, dataclass, replace
 from ..model import architectures, libseccomp, profiles, tables
 from ..model.answers import MAX_ERRNO, Answer
 from ..model.architectures import JUDGED, LITTLE_ENDIAN, NATIVE, NUMBERS, PREFIX
@@ -219,11 +219,8 @@ class _Application:
                 for name in entry["names"]:
                     unconditional.setdefault(name, (answer, origin))
         for names, answer, origin in handed:
-            covered: dict[int, list[str]] = {}
-            for name in names:
-                first_answer, first = unconditional.get(name, (answer, origin))
-                if first_answer != answer:
-                    covered.setdefault(first.index, []).append(name)
+            covering = ((name, *unconditional.get(name, (answer, origin))) for name in names)
+            covered = by_key((first.index, name) for name, first_answer, first in covering if first_answer != answer)
             for index, covered_names in covered.items():
                 yield (f"{who} leaves {excerpts(covered_names)} out of entry {origin.index}: entry {index}, which has "
                        "no conditions, covers all such syscalls")

@@ -94,8 +94,7 @@ class Search:
 
     def _beside(self, entry: Entry, call: ArchitectureNumber) -> list[Entry]:
         """Other entries of a syscall, without what is gone; one that answers otherwise, to a runtime, has all calls."""
-        others = (other for named, other in self._having[call]
-                  if named not in self.gone and other.place != entry.place)
+        others = (other for named, other in self._having[call] if named not in self.gone and other.place != entry.place)
         return [other for other in others if other.answer == entry.answer
                 or other.answer != self.default and _takes_all(other)
                 and not (_takes_all(entry) and entry.place < other.place)]

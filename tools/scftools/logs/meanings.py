@@ -9,6 +9,7 @@ from ..model import tables
 from ..model.answers import ALLOWED, DELEGATED, DENIED, DEPENDS, DOES, Answer
 from ..model.architectures import NATIVE
 from ..model.calls import Call
+from ..model.constants import number_in
 from ..model.tables import Table, Tables
 from ..ask import explanation, verdicts
 from ..ask.client import FAULT, Fault
@@ -103,9 +104,10 @@ def _of_answer(line: str) -> Iterator[str]:
 
 
 def _of_call(line: str, table: Table) -> Iterator[str]:
-    call = Call.read(line)
-    if call is not None:
-        yield from explanation.explain_call(call, table)
+    match = re.fullmatch(r"call nr (\S+) arch (\S+) ip (\S+) args((?: \S+){6})", line)
+    numbers = list(map(number_in, (*match.groups()[:3], *match[4].split()))) if match else [None]
+    if None not in numbers:
+        yield from explanation.explain_call(Call(*numbers[:3], tuple(numbers[3:])), table)
     named = verdicts.NAMED_CALL_LINE.fullmatch(line)
     if named:
         yield f"of syscall {named[1]}, {named[2]}: {OF_A_SYSCALL[named[3]]}"

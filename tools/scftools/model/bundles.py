@@ -10,8 +10,7 @@ from .tables import Tables
 TABLES = tuple(architecture.kind for architecture in JUDGED.values())
 # The kinds of a filter and of a profile of the other side: `scf compare` reads them, filters with --beside.
 BESIDE, BESIDE_PROFILE = "beside", "beside-profile"
-# (of a table's architecture the first number that runc's stub answers; and how often its syscalls are called, by which
-# `scf compile` cuts its searches)
+# (of a table's architecture the first number that runc's stub answers, and how often its syscalls are called)
 PART_KINDS = ("filter", "profile", BESIDE, BESIDE_PROFILE, *TABLES, *(f"stub-{table}" for table in TABLES),
               *(f"counts-{table}" for table in TABLES))
 # The most bytes that scf reads; it refuses a longer bundle.

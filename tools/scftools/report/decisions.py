@@ -24,8 +24,7 @@ from ..forms.profile_inputs import ProfileInput
 from . import listing
 from .blocks import Block, of_fault
 
-# No name of a syscall and no number is longer; and the most syscalls of a list, for each of which scf is run, and
-# which together take some seconds.
+# No name of a syscall and no number is longer; and the most syscalls of a list, for each of which scf is run.
 LONGEST_WORD, MOST_CALLS = 256, 2048
 FIELD_HELP = {"ip": "the instruction pointer", **{f"a{index}": f"argument {index}" for index in range(6)},
               "a0": "argument 0: a number, or constants such as AF_INET or CLONE_NEWUSER|SIGCHLD"}
@@ -50,20 +49,18 @@ class Query:
 
 def add_numbers(parser: Parser) -> None:
     """Adds the options for a record's fields beside its number."""
-    parser.add_argument("--arch", metavar="ARCH",
-                        help="the architecture of the syscalls: a name such as i386 or aarch64, or its number, as the "
-                             "audit log has it (c000003e) [default: x86-64]")
+    parser.value("--arch", "ARCH", "the architecture of the syscalls: a name such as i386 or aarch64, or its number, "
+                 "as the audit log has it (c000003e) [default: x86-64]")
     for name in OPTIONS[2:]:
-        parser.add_argument(f"--{name}", metavar="N", help=f"{FIELD_HELP[name]} [default: 0]")
+        parser.value(f"--{name}", "N", f"{FIELD_HELP[name]} [default: 0]")
 
 
 def add_options(parser: Parser) -> None:
     """Adds the options that give records, and --json."""
-    parser.add_argument("--nr", metavar="NUMBER|NAME", action="append", default=[],
-                        help="a syscall by number or name, or several with commas between; may be repeated")
-    parser.add_argument("--calls-from", metavar="FILE",
-                        help=f"more syscalls, one a line, at most {MOST_CALLS}: a number or a name, and any arguments "
-                             "from the first on; - is standard input")
+    parser.value("--nr", "NUMBER|NAME", "a syscall by number or name, or several with commas between; may be repeated",
+                 action="append", default=[])
+    parser.value("--calls-from", "FILE", f"more syscalls, one a line, at most {MOST_CALLS}: a number or a name, and "
+                 "any arguments from the first on; - is standard input")
     add_numbers(parser)
     parser.add("--table", "--json")
     parser.set_defaults(call=[])
@@ -233,8 +230,8 @@ def replies(made: Sequence[Block]) -> Block:
                  lambda: {"calls": [{"status": reply.status, **reply.members()} for reply in made]})
 
 
-# What messages call the input, the most bytes that are read of it, and the most rows, which take some seconds.
-INPUT_KIND, LONGEST_LIST, MOST_ROWS = "file of rows", 1 << 62, 1 << 16
+# The most rows of a file, which take some seconds.
+MOST_ROWS = 1 << 16
 ROW = Pattern(r"([^=]+)=\s*([A-Z_]+)(?:\s+(\S+))?")
 
 
@@ -282,7 +279,7 @@ def _row(line: int, text: str, numbering: Numbering) -> ExpectedRow:
 def read_expectations(name: str, numbering: Numbering) -> Iterator[ExpectedRow]:
     """The rows of a file, but for comments, which begin with `#`."""
     count = 0
-    for line, row in enumerate(b"".join(inputs.input_pieces(name, INPUT_KIND, LONGEST_LIST)).split(b"\n"), 1):
+    for line, row in enumerate(inputs.read_whole(name, "file of rows").split(b"\n"), 1):
         text = row.decode("utf-8", "surrogateescape").strip()
         if len(row) > LONGEST_LINE:
             raise program.ToolError(f"line {line} of the rows has more than {LONGEST_LINE} bytes")

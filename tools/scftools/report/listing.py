@@ -229,8 +229,7 @@ def path_of(bpf_filter: Filter, words: Sequence[str], with_path: bool = True) ->
 
 def givers(paths: Sequence[Path], answer: Answer | None) -> list[Path]:
     """The paths of a stack's filters, oldest first, that give this answer. The kernel takes the stack's from the last:
-    it runs the newest first, and of equal actions keeps the one that it has (seccomp_run_filters in kernel/seccomp.c).
-    """
+    it runs the newest first, and of equal actions keeps the first (seccomp_run_filters in kernel/seccomp.c)."""
     return [path for path in paths if path.indexes and path.decision.answer == answer]
 
 

@@ -70,6 +70,8 @@ class Expectations(Counting):
         with mock.patch.object(decisions, "MOST_ROWS", 2):
             self.assertEqual(self.decided("read = ALLOW\n# other\nread = ALLOW\n")[0], 0)
             self.assertEqual(self.decided("read = ALLOW\n" * 3)[::2], (2, "decide: the file has more than 2 rows\n"))
+        self.assertEqual(self.run_tool("decide", "--expect", "/dev/zero", self.file("f.bpf", DATA)),
+                         (2, "", "decide: the file of rows '/dev/zero' has more than 16777216 bytes\n"))
 
     def test_what_is_refused(self):
         for rows, says in (("read ALLOW\n", "line 1 of the rows isn't a syscall"),
