@@ -141,8 +141,7 @@ class Judges:
             for number, part in parts.items():
                 part.judgement = part.judgement or self.known.get((key, of.stack_keys[number]))
                 of.digests.update({number: part.judgement.digest} if part.judgement is not None else {})
-        of.surfaces_of.update((digest, self.surfaces[digest]) for digest in of.digests.values()
-                              if digest in self.surfaces)
+        of.surfaces_of.update((each, self.surfaces[each]) for each in of.digests.values() if each in self.surfaces)
         return not of.is_over or self.options.has_surfaces and not of.surfaces_of.keys() >= {*of.digests.values()}
 
     def keep(self, of: Task) -> None:

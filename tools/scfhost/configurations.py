@@ -80,8 +80,7 @@ def identifiers_in(text: str) -> list[str]:
 
 def identifiers_of(kernel: Kernel, process: int) -> list[str]:
     """The identifiers of containers in the paths of a process's control groups."""
-    return [identifier for group in kernel.groups_of(process).values()
-            for identifier in identifiers_in(os.fsdecode(group))]
+    return [each for group in kernel.groups_of(process).values() for each in identifiers_in(os.fsdecode(group))]
 
 
 def other_runtime(identifiers: Sequence[str], runtime: str | None) -> str | None:

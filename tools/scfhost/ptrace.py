@@ -149,8 +149,7 @@ class Kernel:
         return None if written is None else SYSCALL_INFO.unpack(room.raw)[1]
 
     def waits_for_supervisor(self, thread: int) -> bool:
-        """Whether a thread waits for a supervisor's answer to its system call (seccomp_unotify(2)): then it is in
-        seccomp_do_user_notification of kernel/seccomp.c."""
+        """Whether a thread waits for a supervisor's answer: in seccomp_do_user_notification of kernel/seccomp.c."""
         return b"seccomp" in contents(f"/proc/{thread}/wchan")
 
     def wait(self, thread: int) -> int | None:

@@ -132,8 +132,7 @@ class Restarts:
         return None if answer is None else answer.disposition
 
     def answer(self, filters: tuple[bytes, ...], call: Call) -> Answer | None:
-        """The answer of filters to a syscall, None if scf can't tell or was asked too often: after a few syscalls by
-        their regions, which it prints once for all."""
+        """The answer of filters to a call, after a few by their regions; None if scf can't tell or was asked often."""
         known = self.answers.setdefault(filters, {})
         if call in known:
             return known[call]

@@ -198,9 +198,8 @@ def request_of(options, kernel, named):
 def other_runtime(options, kernel, verification):
     """The line, where filters aren't as configured, that another runtime than was said reads the configuration."""
     if verification.request.configured and verification.is_refuted and options.profile is not None:
-        identifiers = [*configurations.identifiers_of(kernel, options.pid),
-                       *configurations.identifiers_in(options.profile)]
-        yield from filter(None, [configurations.other_runtime(identifiers, options.runtime)])
+        those = [*configurations.identifiers_of(kernel, options.pid), *configurations.identifiers_in(options.profile)]
+        yield from filter(None, [configurations.other_runtime(those, options.runtime)])
 
 
 def main():
@@ -208,8 +207,7 @@ def main():
     kernel, named = processes.Kernel(), None
     if options.name is not None:
         described = container_files.described_containers(kernel, Snapshot(), (), child.Budget(audit.SECONDS_OF_FILES))
-        named = container_named([found for found in described if found.user == options.user], options.name,
-                                options.user)
+        named = container_named([each for each in described if each.user == options.user], options.name, options.user)
         options.pid, options.container = named.first, True
     request = request_of(options, kernel, named)
 

@@ -109,8 +109,7 @@ def of_architecture_names(top: Object) -> Iterator[Finding]:
                       architectures=architectures)
 
 
-# What only engines read, in their own profiles (Seccomp and Syscall in containers-common's pkg/seccomp/types.go,
-# and in moby's profiles/seccomp/seccomp.go).
+# What only engines read (containers-common's pkg/seccomp/types.go, and moby's profiles/seccomp/seccomp.go).
 ENGINE_MEMBERS = {
     **{name: f"only podman reads {name}, an errno's name or its number as a string, and takes it for {name}Ret"
        for name in ("defaultErrno", "errno")},

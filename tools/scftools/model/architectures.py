@@ -49,8 +49,7 @@ class Architecture:
     swaps_clone: bool = True
     # its socketcall and ipc make the syscalls of sockets and System V IPC, too: sys_socketcall of libseccomp's arch-*.c
     multiplexes: bool = False
-    # Linux from 5.11 on answers its syscalls that are always allowed without running a filter: SECCOMP_ARCH_NATIVE or
-    # SECCOMP_ARCH_COMPAT in asm/seccomp.h
+    # Linux from 5.11 on answers what is always allowed without running a filter: SECCOMP_ARCH_* in asm/seccomp.h
     has_bitmap: bool = True
 
     @property

@@ -22,8 +22,7 @@ HOLDS = {
 # The greatest value of an argument, and of its lower half.
 GREATEST_VALUE, LOW_HALF = (1 << 64) - 1, (1 << 32) - 1
 # The operators that the tools themselves write.
-EQUAL, NOT_EQUAL, AT_LEAST, AT_MOST, MASKED = (f"SCMP_CMP_{operator}"
-                                               for operator in ("EQ", "NE", "GE", "LE", "MASKED_EQ"))
+EQUAL, NOT_EQUAL, AT_LEAST, AT_MOST, MASKED = (f"SCMP_CMP_{name}" for name in ("EQ", "NE", "GE", "LE", "MASKED_EQ"))
 
 
 @dataclass(frozen=True)

@@ -142,8 +142,7 @@ def changes_of(pair: ProfileComparison, report: Report) -> Changes:
 
 
 def line_of(change: Change, sides: Sequence[ProfileInput]) -> str:
-    """The line of a change: number, names, kind, an example, and for each profile its answer and what gives it, an
-    entry by its index in the user's profile."""
+    """A change's line: number, names, kind, example, and each profile's answer and what gives it, entries by index."""
     shown = (str(change.number), ",".join(change.names), change.kind)
     words = [change.architecture.marked(" ".join(filter(None, shown)))]
     if change.call is not None:

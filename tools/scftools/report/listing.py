@@ -125,8 +125,7 @@ def name_of(k: int, its: frozenset[int | None], table: Table) -> str:
         return _name_on(k, X86_64, table) if X86_64 in its else f"number {k} of other architectures"
     if len(its) > MOST_NAMED:
         return f"number {k} of several architectures"
-    return " or ".join(_name_on(k, number, table)
-                       for number in sorted(its, key=lambda number: (number != X86_64, number)))
+    return " or ".join(_name_on(k, each, table) for each in sorted(its, key=lambda number: (number != X86_64, number)))
 
 
 def _meaning(index: int, insn: Instruction, facts: Known, table: Table, count: int) -> str | None:

@@ -109,9 +109,8 @@ class FilterAnswers:
 
     def unsaid(self, answers: Answers) -> Answer | None:
         """An answer to the calls of a number that no profile gives, such as ALLOW with data."""
-        known_answers = (Answer.of_word(word) for word, _ in answers if word is not None)
-        return next((answer for answer in known_answers if answer != nearest(answer.word, True, self.has_trap_data)),
-                    None)
+        known = (Answer.of_word(word) for word, _ in answers if word is not None)
+        return next((answer for answer in known if answer != nearest(answer.word, True, self.has_trap_data)), None)
 
     def _untested(self, answers: Answers) -> str | None:
         """Why the answers to a number depend on something that no condition tests, or None. Raises TooMany."""
@@ -344,8 +343,7 @@ def _covered(answers: FilterAnswers, *proved: ProvedProfile) -> Iterator[str]:
     """The architectures that profiles list, if several, and others whose syscalls aren't all proved to be denied."""
     listed = proved[0].profile["architectures"] if proved else [answers.architecture.oci]
     data = [bpf_filter.data for bpf_filter in answers.filters]
-    accesses = [questions.abi_access(data, answers.regions, JUDGED[name]) for name in answers.others
-                if name not in listed]
+    accesses = [questions.abi_access(data, answers.regions, JUDGED[oci]) for oci in answers.others if oci not in listed]
     others = [f"{access.describe()}; --arch {access.abi.name} prints its profile" for access in accesses
               if not access.are_denied]
     if others or len(listed) > 1:
