@@ -100,9 +100,9 @@ def start(main: Callable[[], int]) -> NoReturn:
     signal.signal(signal.SIGCHLD, signal.SIG_DFL)
     try:
         status = main()
-    except SystemExit:
-        # --help and the like
-        status = SUCCESS
+    except SystemExit as ended:
+        # --help
+        status = ended.code if isinstance(ended.code, int) else SUCCESS
     except ToolError as why:
         say(str(why))
         status = why.status
