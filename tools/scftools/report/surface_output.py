@@ -241,17 +241,17 @@ class Pair:
         return members
 
 
-def _comparison(sides: Iterable[Sequence[bytes]], table: Table) -> StackComparison:
-    return StackComparison(*([Filter("", data) for data in side] for side in sides), table)
-
-
 class Beside:
-    """Two surfaces over one table: which syscalls differ, and whether numbers without a name or other ABIs do."""
+    """Two surfaces over one table, or one twice if all is the same: what differs of calls, unnamed numbers and ABIs."""
 
-    def __init__(self, *sides: Surface):
-        comparison = _comparison([side.asker.filters for side in sides], sides[0].table)
-        lines = {line.number: line for line in comparison.of_calls()}
+    pairs: Sequence[Pair] = ()
+    status, unnamed_differ, foreign_differ = program.SUCCESS, False, False
+
+    def __init__(self, comparison: StackComparison, *sides: Surface):
         self.sides = sides
+        if sides[0] is sides[1]:
+            return
+        lines = {line.number: line for line in comparison.of_calls()}
         self.pairs = [Pair(rows, lines[rows[0].number]) for rows in zip(*(side.rows for side in sides))
                       if rows[0].number in lines]
         of_unnamed = [comparison.of_numbers(NATIVE, first, end - 1) for first, end in questions.gaps(comparison.table)]
@@ -261,10 +261,10 @@ class Beside:
             if verdict is None:
                 # behind a filter that allows these alone, since no scope of scf has them
                 alone = client.compile_profile(ALLOW.as_profile(abi.oci), Tables({abi.oci: Table(b"")}))
-                verdict = _comparison([[alone, *side] for side in comparison.stacks], comparison.table).run()[1].verdict
+                behind = ([Filter("", alone), *side] for side in comparison.sides)
+                verdict = StackComparison(*behind, comparison.table).run()[1].verdict
             of_foreign.append(verdict or Verdict(UNFINISHED))
         verdicts = [*(pair.line.verdict for pair in self.pairs), *of_unnamed, *of_foreign]
-        # 1 if they differ, 4 if something is undecided, else 0
         self.status = min(verdicts, key=lambda verdict: verdict.order).status
         self.unnamed_differ, self.foreign_differ = (any(verdict.fails for verdict in its)
                                                     for its in (of_unnamed, of_foreign))
@@ -334,8 +334,9 @@ class StackSurface:
             self.status = program.SUCCESS if surface.is_decided else program.UNKNOWN
             if beside:
                 self.filters = beside
-                verdict = StackComparison(filters, beside, table).run()[1].verdict
-                self.beside = Beside(surface, surface if verdict is not None and verdict.holds else surface_of(beside))
+                comparison = StackComparison(filters, beside, table)
+                verdict = comparison.run()[1].verdict
+                self.beside = Beside(comparison, surface, surface if verdict and verdict.holds else surface_of(beside))
                 self.filters, self.status = filters, self.beside.status
             self.surface = surface
         except client.Refusal as why:

@@ -27,8 +27,9 @@ from scftools.base import output
 from scftools.model import answers, architectures, tables
 from scftools.model.calls import Call
 from scftools.ask import client, questions
-from scftools.forms.filters import Inspection, Stack
+from scftools.forms.filters import Filter, Inspection, Stack
 from scftools.report import blocks, surface_output, surfaces
+from scftools.report.compare import StackComparison
 
 READ, WRITE, GETPID, SOCKET, EXIT_GROUP = 0, 1, 39, 41, 231
 NAMES = {"read": READ, "write": WRITE, "getpid": GETPID, "socket": SOCKET, "exit_group": EXIT_GROUP, "too": READ}
@@ -125,6 +126,11 @@ def of(filters, limit=None, table=OWN):
 @functools.lru_cache(None)
 def surface_of(name):
     return of(KNOWN[name][0])
+
+
+def compared_surfaces(*sides):
+    stacks = ([Filter("", data) for data in side.asker.filters] for side in sides)
+    return surface_output.Beside(StackComparison(*stacks, sides[0].table), *sides)
 
 
 def allowing(numbers, more=b""):
@@ -559,7 +565,7 @@ class Beside(Case):
     @staticmethod
     def compared(*sides):
         """The status, and the numbers of the syscalls that differ with what is said of each side."""
-        beside = surface_output.Beside(*sides)
+        beside = compared_surfaces(*sides)
         return beside.status, [(pair.number, *(row.said for row in pair.rows)) for pair in beside.pairs], beside
 
     def test_each_two(self):
@@ -581,7 +587,7 @@ class Beside(Case):
                 ("a condition", by_argument(41, EPERM, ALLOW), ("ERRNO 1", "ALLOW")),
                 ("an errno", by_argument(40, 0x50026, ALLOW), ("ERRNO 1", "ERRNO 38")),
                 ("a logged syscall", by_argument(40, EPERM, LOG), ("ALLOW", "LOG"))):
-            beside = surface_output.Beside(of(plain), of([of_number(SOCKET, default, ALLOW)]))
+            beside = compared_surfaces(of(plain), of([of_number(SOCKET, default, ALLOW)]))
             (pair,) = beside.pairs
             self.assertEqual((beside.status, pair.number, *(row.said for row in pair.rows)), (1, SOCKET, D, D), name)
             verdict = pair.line.verdict
