@@ -14,9 +14,9 @@ from kernel_child import MOST_RECORDS, NR_SECCOMP, SITES, Kernel, Setting
 from kernel_exceptions import NR_UPROBE, NR_URETPROBE
 from kernel_programs import ALLOW, JEQ, LD_WORD, RET, TRACE, Insn, packed
 from scftools.model.answers import I386_NUMBER, MAX_ERRNO, X86_64, Answer
-from scftools.model.calls import NO_CALL, Call
+from scftools.model.calls import ARCHITECTURE, NO_CALL, Call
 from scftools.ask import regions
-from scftools.ask.regions import POINTER, Region
+from scftools.ask.regions import FREE, POINTER, Region
 
 # What the tracer is told of a call that the filters allow: data that no profile gives.
 ALLOWED = 0x5CF1
@@ -47,8 +47,8 @@ def why_not(region: Region, call: Call, has_i386: bool) -> str | None:
 def record_of(region: Region) -> Call:
     """A record of a region: of an architecture that this machine has, and at one of the child's places, if the region
     has such records."""
-    call = region.call
-    architecture = next((arch for arch in (X86_64, I386_NUMBER) if region.is_of(call.number, arch)), call.architecture)
+    call, its_architecture = region.call, region.words.get(ARCHITECTURE, FREE)
+    architecture = next(filter(its_architecture.has, (X86_64, I386_NUMBER)), call.architecture)
     pointers = (site + 2 for site in SITES if kernel_child.is_gate(site) == (architecture == I386_NUMBER))
     pointer = next((place for place in pointers if region.has({POINTER: place})), call.pointer)
     return Call(call.number, architecture, pointer, call.arguments)
