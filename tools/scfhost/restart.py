@@ -89,8 +89,7 @@ class Restarts:
             self.answers.clear()
 
     def at_stop(self, thread: int) -> None:
-        """A thread has stopped. Until it is known what its filters allow, its call begins anew, so that it does even if
-        this process is killed."""
+        """A thread has stopped. Until its answer is known its call begins anew, even if this process is killed."""
         self.calls.pop(thread, None)
         registers = self.kernel.registers(thread)
         number = restart_number(registers)

@@ -117,8 +117,7 @@ def snap_tags() -> frozenset[str]:
 
 
 def snap_tag_of(kernel: Kernel, process: Process) -> tuple[str | None, int | None]:
-    """The security tag by which a control group of a process is called, and the user whose group or process it is, None
-    for root."""
+    """The security tag by which a process's control group is called, and whose group or process it is, None: root's."""
     for hierarchy, path in process.groups.items():
         match = next(filter(None, map(TAGGED_GROUP.fullmatch, path.split(b"/"))), None)
         if match:

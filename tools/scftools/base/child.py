@@ -291,8 +291,7 @@ def ask_each(works: Sequence[Work], turns: Iterable[tuple[int, float]], receive:
 
 
 def checked(value: Any, form: Any) -> Any:
-    """A value of this form: a type, None, one of several forms, a list of values of one, or an object with these
-    members. Raises TypeError."""
+    """A value of a form: a type, None, one of several, a list of one's, an object with these. Raises TypeError."""
     if isinstance(form, tuple):
         for each in form:
             try:

@@ -79,9 +79,12 @@ class Confinement:
     # number they have for their maker, which is another one in a PID namespace of its own (pid_namespaces(7))
     _expected: dict[str, None] = field(default_factory=dict)
     _early: dict[str | None, str] = field(default_factory=dict)
+    # numbers without a line, in the place of which there may be other ones
+    _renamed: set[str | None] = field(default_factory=set)
 
     def begins(self, who: str | None, makers: Iterable[str | None]) -> None:
         """A thread has a line: a new one is expected, made by one of these, or the first, which has a number now."""
+        self._renamed.discard(who)
         if who in self.process:
             self._expected.pop(who or "", None)
             return
@@ -89,6 +92,7 @@ class Confinement:
         if who is not None and self._expected:
             child = next(iter(self._expected))
             self._expected.pop(child)
+            self._renamed.add(child)
             self._is_as(who, child, self.process[child] if self.process[child] != child else who)
         elif who is not None and maker != who:
             self._early[maker] = who
@@ -104,16 +108,17 @@ class Confinement:
         """A thread has made a syscall."""
         who, child = line.who, line.child
         if child is not None:
-            early = self._early.pop(who, child)
-            if child == early and child not in self.process:
-                self._expected[child] = None
-            for number in (child, early):
-                process = self.process.get(who, who) if "CLONE_THREAD" in line.text else number
-                if number in self.process:
-                    # (it may have loaded filters since its first line)
-                    self.process[number] = process
+            early = self._early.pop(who, None)
+            if child != early and child not in self.process:
+                self._is_as(child, who, child)
+                if early is None:
+                    self._expected[child] = None
                 else:
-                    self._is_as(number, who, process)
+                    self._renamed.add(child)
+            for number in (child, early or child):
+                # (one that had a line may have loaded filters since then, or have ended)
+                if number in self.process:
+                    self.process[number] = self.process.get(who, who) if "CLONE_THREAD" in line.text else number
         flags = _flags_of_load(line) if line.text.startswith(("seccomp(", "prctl(")) else None
         if flags is not None:
             filters = (*self.filters.get(who, ())[:MOST_FILTERS], self.filter_in(line))
@@ -369,7 +374,7 @@ class FilterLoads(Confinement):
 
     def end(self, who: str | None) -> None:
         """A process or thread has ended, or the log has."""
-        if self.filters.get(who):
+        if self.filters.get(who) and who not in self._renamed:
             self.ended.setdefault(self.filters[who], []).append(who or "")
         self._unfinished.pop(who, None)
         super().end(who)

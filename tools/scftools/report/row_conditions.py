@@ -114,8 +114,7 @@ def _proved(asker: Asker, drafts: Sequence[tuple[Row, Conditions]]) -> set[int]:
 
 
 def add(surface: Surface) -> list[str]:
-    """Adds conditions, where scf proves them, to a surface's rows with several answers; a line if the filters weren't
-    followed to their ends."""
+    """Adds proved conditions to a surface's rows with several answers; a line if runs weren't followed to an end."""
     asker = surface.asker
     answers = FilterAnswers([Filter("", data) for data in asker.filters], surface.regions, surface.table,
                             asker.architecture, has_trap_data=True)

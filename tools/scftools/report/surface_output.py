@@ -171,8 +171,7 @@ def _row_lines(rows: Sequence[Row], width: int | None) -> Iterator[str]:
 
 
 def row_json(row: Row) -> dict[str, object]:
-    members: dict[str, object] = {"number": row.number, "names": row.names, "group": group_of(row),
-                                "disposition": row.said}
+    members = {"number": row.number, "names": row.names, "group": group_of(row), "disposition": row.said}
     if row.shown:
         members["examples"] = {disposition: shown.as_json() for disposition, shown in row.shown.items()}
         members["never"] = row.never

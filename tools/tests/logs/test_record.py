@@ -172,6 +172,21 @@ made.load()
         early = ["1 clone(child_stack=0, flags=CLONE_VM|CLONE_THREAD) = 2", superseded[3], f"3 {loads}"]
         self.assertEqual(strace_reader.stacks_in(early), {(ret(ALLOW),): ["3"]})
 
+    def test_each_process_counts_once(self):
+        """Its end may stand before its maker's result, which in another PID namespace has another number."""
+        stack = "{len=1, filter=[BPF_STMT(BPF_RET|BPF_K, SECCOMP_RET_ALLOW)]}"
+        loads, end = f"1 seccomp(SECCOMP_SET_MODE_FILTER, 0, {stack}) = 0", " +++ exited with 0 +++"
+        for made, child in (("fork()", "2"), ("fork()", "50"), ("clone(flags=CLONE_VM|CLONE_THREAD)", "2")):
+            begun = [loads, f"1 {made[:-1]} <unfinished ...>"]
+            resumed = f"1 <... {made.partition('(')[0]} resumed>) = 2"
+            for lines in ([*begun, f"{child}{end}", resumed],
+                          [*begun, f"{child} prctl(1) = 0", resumed, f"{child}{end}"],
+                          [loads, f"1 {made} = 2", f"{child}{end}"]):
+                with self.subTest(lines):
+                    self.assertEqual(strace_reader.stacks_in([*lines, f"1{end}"]), {(ret(ALLOW),): [child, "1"]})
+        # one of which the log has no line has its filters, too
+        self.assertEqual(strace_reader.stacks_in([loads, "1 fork() = 2", f"1{end}"]), {(ret(ALLOW),): ["1", "2"]})
+
     def test_a_program_without_dashes(self):
         """Both tools say where it stands."""
         for words, right in ((("filters-of", "true", "out"), "filters-of -- true out"),
