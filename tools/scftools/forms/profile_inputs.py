@@ -117,8 +117,7 @@ def looks_like_profile(data: bytes) -> bool:
 
 
 def plain(data: bytes, name: str) -> bytes:
-    """A profile as runtimes read it: of a SeccompProfile its spec, of a sandbox's list its rules, all else as it is.
-    Refuses what isn't one."""
+    """A profile as runtimes read it: a SeccompProfile's spec, a list's rules, else as it is. Refuses what isn't one."""
     label = inputs.label(name)
     if data.startswith(b"\x7fELF"):
         raise program.ToolError(f"{label} is an ELF file (a program, library or object), not a profile")

@@ -341,7 +341,7 @@ def applied_in(data: bytes, path: str, name: str | None, setting: Setting, is_st
         value = engines.parse_json(data)
         given = profile_inputs.resolved(value, setting, True) if name is None else applied(value, name, setting)
     except Refused as why:
-        raise program.ToolError(f"{inputs.label(path) if name is None else path}: {why}") from why
+        raise program.ToolError(f"{inputs.label(path)}: {why}") from why
     if name is not None and is_strict is not None:
         profile_inputs.tell_unread(data, path, is_strict)
     return given
@@ -373,6 +373,7 @@ def input_in(data: bytes, name: str, options: Any, is_strict: bool | None = Fals
     if runtime is None and caps is None:
         given = ProfileInput(data) if is_strict is None else profile_inputs.profile_in(data, name, False, is_strict)
         return given.read_by(getattr(options, "runtime", None))
+    data = inputs.whole(data, name, "profile")
     # (what is no profile of an engine's is told before its capabilities)
     data = data if runtime is not None else profile_inputs.plain(data, name)
     setting = engines.setting_of(caps, runtime and runtime.engine, machine)

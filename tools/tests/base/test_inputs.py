@@ -88,6 +88,15 @@ class Limits(Measured):
         long = self.file("long.json", profile_of("read", "r" * (TEXT - 500), *map(str, range(20))))
         self.ends(("compare", "--verbose", self.filter, long), 0, "same\nskipped rrr")
 
+    def test_a_profile_that_is_read_otherwise_than_by_its_words(self):
+        """It is told to be too long, and not where it is cut."""
+        longer = self.file("longer.json", profile_of("read", "r" * TEXT))
+        for reading in ("--runtime=runc", "--runtime=podman", "--caps=none"):
+            for words in (("compare", self.filter, longer), ("decide", longer, "read"), ("compile", longer),
+                          ("lint", longer)):
+                with self.subTest(reading, words=words):
+                    self.ends((words[0], reading, *words[1:]), 2, f"the profile '{longer}' has more than {TEXT} bytes")
+
     def test_the_last_byte_within_the_limits(self):
         whole = ret(ALLOW) * (FILTER // 8)
         self.assertEqual(self.run_tool("check", self.file("whole.bpf", whole)), (0, "accepted 4096\n", ""))
