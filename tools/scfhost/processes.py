@@ -119,12 +119,12 @@ def number_in(text: str) -> int:
     return int(text)
 
 
-def read_or_end(read: Callable[[], Any], is_json: bool = False) -> Any:
+def read_or_end(read: Callable[[], Any], is_json: bool = False, has_force: bool = True) -> Any:
     """The result of `read`; ends the tool where that fails, with an object where one is wanted, or by a signal."""
     try:
         return read()
     except Unreadable as error:
-        why = f"{error} (--force stops it)" if isinstance(error, Waiting) else str(error)
+        why = f"{error} (--force stops it)" if has_force and isinstance(error, Waiting) else str(error)
         if is_json:
             output.put_json({"status": program.TROUBLE, "verdict": None, "stacks": [], "why": output.escaped(why)})
         raise program.ToolError(why) from error

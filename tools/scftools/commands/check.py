@@ -54,7 +54,7 @@ def main():
     parser.add("--json", "--force", "filters")
     options = parser.parse_args()
     parser.one_standard_input(options.filters)
-    if len(options.filters) == 1 and operands.is_process(options.filters[0]):
+    if len(options.filters) == 1 and operands.has_process(*options.filters):
         return put_blocks(operands.read(options.filters, options), lambda stack: whole(
             [checked(bpf_filter.name, bpf_filter.data, len(stack) == 1) for bpf_filter in stack], "checked"),
                           options.json)

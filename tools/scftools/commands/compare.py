@@ -79,14 +79,14 @@ def read_words():
     if not any(word.partition("=")[0] == "--beside" for word in sys.argv):
         parser.value("profile", "WANTED", "a profile or a filter, pid:N or unit:NAME; - is standard input")
     options = parser.parse_args()
-    has_process = any(map(operands.is_process, options.filters))
+    others = [options.profile, *options.also] if options.beside is None else options.beside
+    has_process = operands.has_process(*options.filters)
     parser.reject(
         (options.beside == [], "argument --beside: expected at least one argument"),
         (options.also and options.scope in (verdicts.NATIVE_SCOPE, verdicts.ALL),
          "--also is for other architectures' profiles, and --native and --all take one alone"),
-        (options.force and not has_process, "--force needs a process"),
+        (options.force and not operands.has_process(*options.filters, *others), "--force needs a process"),
         (options.html and has_process, "--html shows one comparison, and a process may have several stacks"))
-    others = [options.profile, *options.also] if options.beside is None else options.beside
     parser.one_standard_input([*options.filters, *others, options.table])
     runtimes.words_of(options)
     return parser, options
@@ -97,8 +97,8 @@ def main():
     inputs.kept = {} if options.html is not None else None
     actual = operands.read(options.filters, options)
     # (filters, or the profiles of a unit)
-    if options.beside is not None or operands.is_process(options.profile):
-        wanted = [operands.read_stack(options.beside or [options.profile])]
+    if options.beside is not None or operands.has_process(options.profile):
+        wanted = [operands.read_stack(options.beside or [options.profile], options)]
     else:
         given = operands.read([options.profile], options)
         wanted = [given] if isinstance(given, list) else [

@@ -47,7 +47,7 @@ from ..report.compare_output import Judgement
 
 def side_of(path, options):
     """What a word names: filters, or a profile, as it is or as an engine or a runtime makes it, and what that lacks."""
-    if operands.is_process(path) and not options.profiles:
+    if operands.has_process(path) and not options.profiles:
         return operands.read([path], options), []
     data = profile_inputs.read_text(path, "engine's profile" if options.is_made else None)
     if not options.profiles and not profile_inputs.looks_like_profile(data):
@@ -77,7 +77,7 @@ def main():
     options = parser.parse_args()
     is_engines = options.keep_first or runtimes.is_engines(options)
     parser.reject((options.runtime == profiles.SANDBOX and is_engines, "--runtime sandbox reads no engine's profile"),
-                  (options.force and not operands.is_process(options.new), "--force needs a process as NEW"))
+                  (options.force and not operands.has_process(options.old, options.new), "--force needs a process"))
     parser.one_standard_input([options.old, options.new, options.table])
     options.is_made = options.runtime in runtimes.RUNTIMES or is_engines
     options.setting = runtimes.setting_of_words(options, parser)

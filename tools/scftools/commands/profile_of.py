@@ -231,7 +231,7 @@ def main():
     if options.set is not None or options.inputs[0].startswith(inputs.UNIT):
         return of_unit(options)
     name, *others = options.inputs
-    if others or operands.is_process(name):
+    if others or operands.has_process(name):
         given = operands.read_stacks(options.inputs, options)
     else:
         data = inputs.read_input(name, "profile")

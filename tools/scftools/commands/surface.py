@@ -104,7 +104,7 @@ def read_words():
         (options.regions and (options.conditions or options.beside or options.html),
          "--regions goes without --conditions, --beside and --html"),
         (options.conditions and options.examples, "give either --conditions or --examples"),
-        (options.force and not any(map(operands.is_process, options.filters)), "--force needs a process"))
+        (options.force and not operands.has_process(*options.filters, *options.beside), "--force needs a process"))
     parser.one_standard_input([*options.filters, *options.beside, options.table])
     return options
 

@@ -80,7 +80,7 @@ def read_files(names, table, options):
     runtime = runtimes.RUNTIMES.get(options.runtime)
     reading = runtime.program if runtime is not None else options.runtime or profiles.STRICT
     for name in names:
-        given = operands.read_stack([name]) if operands.is_process(name) else \
+        given = operands.read_stack([name]) if operands.has_process(name) else \
             operands.read([name], types.SimpleNamespace(caps=options.caps))
         if not isinstance(given, ProfileInput):
             stack += given

@@ -13,8 +13,8 @@ from .filters import Filter, Inspection
 from .profile_inputs import ProfileInput
 
 
-def is_process(word: str) -> bool:
-    return word.startswith(inputs.PROCESS)
+def has_process(*words: str) -> bool:
+    return any(word.startswith(inputs.PROCESS) for word in words)
 
 
 def read(words: Sequence[str], options: Any = None) -> list[Filter] | ProfileInput | Inspection:
@@ -24,13 +24,13 @@ def read(words: Sequence[str], options: Any = None) -> list[Filter] | ProfileInp
     if len(words) > 1:
         return read_stacks(words, options)
     word = words[0]
-    if is_process(word):
+    if has_process(word):
         from scfhost import processes  # pylint: disable=import-outside-toplevel
 
         number = processes.number_in(word.removeprefix(inputs.PROCESS))
         is_forced, is_json = (getattr(options, name, False) for name in ("force", "json"))
-        given = processes.read_or_end(
-            lambda: processes.look_at_process(processes.Kernel(), number, is_forced=is_forced), is_json)
+        given = processes.read_or_end(lambda: processes.look_at_process(
+            processes.Kernel(), number, is_forced=is_forced), is_json, hasattr(options, "force"))
         for at, stack in enumerate(given.stacks):
             for bpf_filter in stack.named:
                 inputs.keep(f"{word} stack {at} {bpf_filter.name}", bpf_filter.data)
@@ -45,9 +45,9 @@ def read(words: Sequence[str], options: Any = None) -> list[Filter] | ProfileInp
 
 def read_stacks(words: Sequence[str], options: Any = None, compiles: bool = False) -> list[Filter] | Inspection:
     """The stack that words name, oldest first, or the stacks of a process; on request also the filters of profiles."""
-    if len(words) == 1 and is_process(words[0]):
+    if len(words) == 1 and has_process(*words):
         return read(words, options)  # type: ignore
-    if any(map(is_process, words)):
+    if has_process(*words):
         raise program.ToolError("a process stands alone, since its filters are a whole stack")
 
     def filter_of(word: str) -> Filter:

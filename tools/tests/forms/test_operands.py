@@ -7,6 +7,7 @@ from support.common import TABLE, Case, filter_of, profile_of
 from support.confined import NEWEST, OLDEST, Confined, here
 from scftools.base import program
 from scftools.forms import operands, profile_inputs
+from scfhost import hold, processes
 
 # What `systemctl show` prints of a unit that denies ptrace.
 SHOWN = "Id=box.service\nLoadState=loaded\nSystemCallFilter=~ptrace:EPERM\nSystemCallErrorNumber=1\nSystemCallLog=~\n"
@@ -40,6 +41,26 @@ class Files(Case):
                             (["why", "type=1326", profile, "pid:"], "isn't a process")):
             with self.subTest(words):
                 self.is_refused(says, *words)
+
+
+    def test_a_process_that_waits_for_a_supervisor(self):
+        """Whichever side it is, --force stops it, and that is told where it is an option."""
+        def look_at_process(_kernel, _number, is_forced):
+            raise hold.Waiting("forced" if is_forced else "it waits")
+
+        filter_ = self.file("f.bpf", filter_of([0]))
+        with mock.patch.object(processes, "look_at_process", look_at_process):
+            for words in (["surface", "pid:1"], ["surface", filter_, "--beside", "pid:1"], ["check", "pid:1"],
+                          ["list", "pid:1"], ["decide", "pid:1", "read"], ["profile-of", "pid:1"],
+                          ["compare", "pid:1", filter_], ["compare", filter_, "pid:1"],
+                          ["compare", filter_, "--beside", "pid:1"], ["diff", "pid:1", filter_],
+                          ["diff", filter_, "pid:1"]):
+                with self.subTest(words):
+                    self.is_refusal("it waits (--force stops it)\n", self.run_tool(*words))
+                    self.is_refusal("forced (--force stops it)\n", self.run_tool(words[0], "--force", *words[1:]))
+            self.is_refusal("it waits\n", self.run_tool("why", "type=1326", "pid:1"))
+        for words in (["surface", filter_], ["compare", filter_, filter_], ["diff", filter_, filter_]):
+            self.is_refused("--force needs a process", words[0], "--force", *words[1:])
 
 
 class Processes(Confined):
