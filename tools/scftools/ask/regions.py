@@ -358,7 +358,7 @@ class Lookup:
         """The syscalls in the table of an OCI architecture that fail a relation; None if regions don't tell."""
         architecture, failing = JUDGED[name], []
         numbers = self.of_architecture(architecture)
-        for number in sorted(table.numbers()) if self.regions is not None else ():
+        for number in (number for number in sorted(table.numbers()) if numbers.of(architecture.first + number)):
             call = Call(architecture.first + number, architecture.number)
             verdict = _verdict(relation, numbers.of(call.number),
                                lambda region: region.call_of(call.number, call.architecture) or call)

@@ -213,11 +213,11 @@ class Path:
                 loaded = loaded.partition(",")[0] + ", computed with it, "
             elif insn.changes_a:
                 loaded = ""
-        shown, means = tests[-MOST_TESTS:], meanings(self.filter.data, table)
-        lines = listing_lines(((index, (insns[index].text, means[index])) for index, _ in shown), len(insns))
+        shown, known = tests[-MOST_TESTS:], known_facts(insns[:self.indexes[-1] + 1])
+        listed = ((at, (insns[at].text, _meaning(at, insns[at], known[at], table, len(insns)))) for at, _ in shown)
         before = f", after {len(tests) - len(shown)} others" if len(tests) > len(shown) else ""
         yield f"the last tests on the path in {title}{before}:"
-        yield from (line + way for line, (_, way) in zip(lines, shown))
+        yield from (line + way for line, (_, way) in zip(listing_lines(listed, len(insns)), shown))
 
 
 def path_of(bpf_filter: Filter, words: Sequence[str], with_path: bool = True) -> Path:
